@@ -10,7 +10,7 @@ use Rattle.sink_journal.specs.declared.journal.Feed.{Feed}
 use Rattle.flow_model.proofs.ElementLemmas.{IsIn, all_of_pairs, pair_of_all}
 use Rattle.audit_laws.specs.declared.audit.Line.{Line}
 use Rattle.audit_laws.specs.declared.audit.Line.TheVariants as line
-use Rattle.audit_laws.specs.Lines.{IsStep, StandInOrder, feeds_in, group_of, refusals_in, step_in}
+use Rattle.audit_laws.specs.Lines.{IsStep, StandInOrder, feeds_in, group_of, refusals_in, feed_step_in}
 use Rattle.audit_laws.specs.Verdict.{AreInShape, DifferFirst, fields_of}
 use Rattle.audit_laws.proofs.NamedLemmas.{are_told}
 use Rattle.audit_laws.proofs.ShapeLemmas.{behind}
@@ -46,7 +46,7 @@ none_refused (line.State w key count ∷ lines) h = none_refused lines (λ l i. 
 
 -- past the refused requests no line is one, and before them there is no step
 abbrev Past : List Line → ℕ → Type 0
-Past lines n = (filter_map step_in (take n lines) ≡ []) × ((l : Line) → IsIn l (drop n lines) → 1 ≤ group_of l)
+Past lines n = (filter_map feed_step_in (take n lines) ≡ []) × ((l : Line) → IsIn l (drop n lines) → 1 ≤ group_of l)
 
 none_before : (x : Line) (lines : List Line) (n : ℕ) → StandInOrder (x ∷ lines) → 1 ≤ group_of x → refusals_in (x ∷ lines) ≡ refusals_in lines → length (refusals_in (x ∷ lines)) ≡ n → Past (x ∷ lines) n
 none_before x lines n o le same e =
@@ -71,7 +71,7 @@ past_refused (line.State w key count ∷ lines) n o e = none_before (line.State 
 -- ---- the steps
 
 abbrev pub AfterSteps : JobView → List Line → List (List (List ℕ)) → List Feed → ℕ → Type 0
-AfterSteps job lines left wanted k = IsAt job step_in 1 lines left wanted k
+AfterSteps job lines left wanted k = IsAt job feed_step_in 1 lines left wanted k
 
 pub before_steps : (job : JobView) (records : List (List (List ℕ))) (lines : List Line) (refused : List Noted) (wanted : List Feed) (left : List (List (List ℕ))) (n : ℕ)
     → AreInShape job records lines → refusals_in lines ≡ refused → length refused ≡ n → AfterLines job lines left n → AfterSteps job lines left wanted 0
@@ -87,7 +87,7 @@ before_steps job records lines refused wanted left n s same count after =
       reached = past.1;
     }
 
-others : (l : Line) → (group_of l ≡ 1 → ⊥) → step_in l ≡ None
+others : (l : Line) → (group_of l ≡ 1 → ⊥) → feed_step_in l ≡ None
 others (line.Refused noted) h = refl
 others (line.Feed step) h = absurd (h refl)
 others (line.Step w entry) h = refl
@@ -105,15 +105,15 @@ module _ (job : JobView) (law : IsLawful job) (records : List (List (List ℕ)))
     pub step_as_wanted : (new : List (List (List ℕ))) (step : Feed) → IsStep step → left ≡ feed_fields step ∷ new → slice_get wanted k ≡ Some step → k < length wanted
         → AfterSteps job lines new wanted (k + 1)
     step_as_wanted new step is e w lt =
-        as_wanted job (are_told job law) step_in line.Feed IsStep feed_fields 1 (λ a. refl) others made (λ a h. h) (λ a h. h) (λ a. refl) lines s.each s.ordered wanted k left new at step is e w lt
+        as_wanted job (are_told job law) feed_step_in line.Feed IsStep feed_fields 1 (λ a. refl) others made (λ a h. h) (λ a h. h) (λ a. refl) lines s.each s.ordered wanted k left new at step is e w lt
 
     pub other_step : (new : List (List (List ℕ))) (step : Feed) → IsStep step → left ≡ feed_fields step ∷ new → slice_get wanted k ≢ Some step → DifferFirst (feeds_in lines) wanted k
     other_step new step is e ne =
-        something_else job (are_told job law) step_in line.Feed IsStep feed_fields 1 (λ a. refl) others made (λ a h. h) (λ a h. h) (λ a. refl) lines s.each s.ordered wanted k left new at step is e ne
+        something_else job (are_told job law) feed_step_in line.Feed IsStep feed_fields 1 (λ a. refl) others made (λ a h. h) (λ a h. h) (λ a. refl) lines s.each s.ordered wanted k left new at step is e ne
 
     none_more : ((step : Feed) (new : List (List (List ℕ))) → IsStep step → left ≢ feed_fields step ∷ new) → feeds_in lines ≡ take k wanted
     none_more none =
-        nothing_more job (are_told job law) step_in line.Feed IsStep feed_fields 1 (λ a. refl) others made (λ a h. h) (λ a h. h) (λ a. refl) lines s.each s.ordered wanted k left at none
+        nothing_more job (are_told job law) feed_step_in line.Feed IsStep feed_fields 1 (λ a. refl) others made (λ a h. h) (λ a h. h) (λ a. refl) lines s.each s.ordered wanted k left at none
 
     pub step_missing : ((step : Feed) (new : List (List (List ℕ))) → IsStep step → left ≢ feed_fields step ∷ new) → (step : Feed) → slice_get wanted k ≡ Some step → DifferFirst (feeds_in lines) wanted k
     step_missing none step w = fewer (feeds_in lines) wanted k step (none_more none) w

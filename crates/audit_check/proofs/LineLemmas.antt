@@ -12,7 +12,7 @@ use Rattle.audit_laws.specs.declared.audit.AuditEntry.{AuditEntry}
 use Rattle.audit_laws.specs.declared.audit.Line.{Line}
 use Rattle.audit_laws.specs.declared.audit.Line.TheVariants as line
 use Rattle.audit_fault.specs.Noting.{IsNoted}
-use Rattle.audit_laws.specs.Lines.{IsEntryAt, IsLine, IsStep, count_fields, fields_by, kept_fields, line_fields}
+use Rattle.audit_laws.specs.Lines.{IsEntryAt, IsLawfulLine, IsStep, count_fields, fields_by, kept_fields, line_fields}
 use Rattle.audit_laws.specs.Names.{Named, named_workers}
 use Rattle.audit_laws.proofs.LineLemmas.{entry_node, field}
 use Rattle.audit_laws.proofs.NamedLemmas.{are_told}
@@ -44,7 +44,7 @@ state_names job six w key count lt h =
 
 -- cells that name no worker tell no line of a worker
 pub no_worker : (job : JobView) (six : Six) → NoRefusal six → NoStep six → ((w : ℕ) → NamesWorker job six.node.now six.worker.now w → ⊥)
-    → (l : Line) → IsLine job l → cells_of six ≡ line_fields (named_workers job.nodes) l → ⊥
+    → (l : Line) → IsLawfulLine job l → cells_of six ≡ line_fields (named_workers job.nodes) l → ⊥
 no_worker job six a b c (line.Refused noted) is e = a noted is e
 no_worker job six a b c (line.Feed step) is e = b step is e
 no_worker job six a b c (line.Step w entry) is e = let n = step_names job six w entry is.0 e in c w (n.0, n.1, n.2, n.3)
@@ -54,7 +54,7 @@ no_worker job six a b c (line.State w key count) is e = let n = state_names job 
 pub no_line : (job : JobView) → IsLawful job → (six : Six) (w : ℕ) → NoRefusal six → NoStep six → NamesWorker job six.node.now six.worker.now w
     → ((x : Named) (e : AuditEntry) → IsEntryAt job w e → cells_of six ≢ kept_fields x e)
     → ((x : Named) (key : List ℕ) (count : ℤ) → mag count < 2 ^ 63 → cells_of six ≢ count_fields x (key, count))
-    → (l : Line) → IsLine job l → cells_of six ≡ line_fields (named_workers job.nodes) l → ⊥
+    → (l : Line) → IsLawfulLine job l → cells_of six ≡ line_fields (named_workers job.nodes) l → ⊥
 no_line job law six w a b c d f (line.Refused noted) is e = a noted is e
 no_line job law six w a b c d f (line.Feed step) is e = b step is e
 no_line job law six w a b (y, there, name, at) d f (line.Step v entry) is e =
@@ -65,13 +65,13 @@ no_line job law six w a b c d f (line.State v key count) is e = let n = state_na
 
 -- cells that tell a step of the worker that they name tell the line
 pub step_line : (job : JobView) (six : Six) (w : ℕ) (e : AuditEntry) → NamesWorker job six.node.now six.worker.now w → IsEntryAt job w e × ((x : Named) → IsNamed six x → cells_of six ≡ kept_fields x e)
-    → IsLine job (line.Step w e) × (cells_of six ≡ line_fields (named_workers job.nodes) (line.Step w e))
+    → IsLawfulLine job (line.Step w e) × (cells_of six ≡ line_fields (named_workers job.nodes) (line.Step w e))
 step_line job six w e (x, there, name, at) (is, told) =
     ((slice_get_within (named_workers job.nodes) w x there, is), told x (name, at) ∙ sym (ap (fields_by (λ worker. kept_fields worker e)) there))
 
 pub state_line : (job : JobView) (six : Six) (w : ℕ) (key : List ℕ) (count : ℤ) → NamesWorker job six.node.now six.worker.now w → mag count < 2 ^ 63 → key ≡ six.extra.now
     → ((x : Named) → IsNamed six x → cells_of six ≡ count_fields x (six.extra.now, count))
-    → IsLine job (line.State w key count) × (cells_of six ≡ line_fields (named_workers job.nodes) (line.State w key count))
+    → IsLawfulLine job (line.State w key count) × (cells_of six ≡ line_fields (named_workers job.nodes) (line.State w key count))
 state_line job six w key count (x, there, name, at) range same told = (
   (slice_get_within (named_workers job.nodes) w x there, range),
   told x (name, at) ∙ (ap (λ (k : List ℕ). count_fields x (k, count)) (sym same) ∙ sym (ap (fields_by (λ worker. count_fields worker (key, count))) there)),

@@ -6,7 +6,7 @@ use Rattle.std.proofs.lemmas.Option.{same_Some}
 use Rattle.jobs.specs.JobView.{JobView}
 use Rattle.flow_model.proofs.ElementLemmas.{Before, IsIn, at_of_all, before_right, in_right, pair_of_all}
 use Rattle.audit_laws.specs.declared.audit.Line.{Line}
-use Rattle.audit_laws.specs.Lines.{IsLine, StandInOrder, group_of, line_fields}
+use Rattle.audit_laws.specs.Lines.{IsLawfulLine, StandInOrder, group_of, line_fields}
 use Rattle.audit_laws.specs.Names.{named_workers}
 use Rattle.audit_laws.specs.Verdict.{DifferFirst, fields_of}
 use Rattle.audit_laws.proofs.LineLemmas.{AreTold, same_line}
@@ -71,8 +71,8 @@ none_past (x ∷ xs) = none_past xs
 
 module _ (job : JobView) (told : AreTold job) {A : Type 0} (pick : Line → Option A) (make : A → Line) (IsGood : A → Type 0) (fields : A → List (List ℕ)) (g : ℕ)
     (picked : (a : A) → pick (make a) ≡ Some a) (others : (l : Line) → (group_of l ≡ g → ⊥) → pick l ≡ None) (made : (l : Line) → group_of l ≡ g → (a : A) × (l ≡ make a))
-    (good : (a : A) → IsGood a → IsLine job (make a)) (is_good : (a : A) → IsLine job (make a) → IsGood a) (spelled : (a : A) → line_fields (named_workers job.nodes) (make a) ≡ fields a)
-    (lines : List Line) (each : All (IsLine job) lines) (ordered : StandInOrder lines) (wanted : List A)
+    (good : (a : A) → IsGood a → IsLawfulLine job (make a)) (is_good : (a : A) → IsLawfulLine job (make a) → IsGood a) (spelled : (a : A) → line_fields (named_workers job.nodes) (make a) ≡ fields a)
+    (lines : List Line) (each : All (IsLawfulLine job) lines) (ordered : StandInOrder lines) (wanted : List A)
   where
     -- the next line, if the next record has these fields
     pub record IsNext (k : ℕ) (left new : List (List (List ℕ))) (at : IsAt job pick g lines left wanted k) (a : A) : Type 0 where
@@ -91,7 +91,7 @@ module _ (job : JobView) (told : AreTold job) {A : Type 0} (pick : Line → Opti
             let last : fields_of job later ≡ new = cc in
             let in_lines : IsIn x lines =
             subst (λ (l : List Line). IsIn x l) (sym at.split) (in_right x at.above at.rest (subst (λ (l : List Line). IsIn x l) (sym is) (inl refl))) in
-            let same : x ≡ make a = same_line job told x (make a) (at_of_all (IsLine job) x lines each in_lines) (good a ok) (first ∙ sym (spelled a)) in
+            let same : x ≡ make a = same_line job told x (make a) (at_of_all (IsLawfulLine job) x lines each in_lines) (good a ok) (first ∙ sym (spelled a)) in
             record { later = later; rest_is = is ∙ ap (λ (z : Line). z ∷ later) same; new_is = sym last }
 
     -- what the lines tell, if this is the next
@@ -147,8 +147,8 @@ module _ (job : JobView) (told : AreTold job) {A : Type 0} (pick : Line → Opti
             let here : IsIn x at.rest = subst (λ (l : List Line). IsIn x l) (sym is) (inl refl) in
             let apart : group_of x ≡ g → ⊥ = λ same.
             let m = made x same in
-            let line : IsLine job x = at_of_all (IsLine job) x lines each (subst (λ (l : List Line). IsIn x l) (sym at.split) (in_right x at.above at.rest here)) in
-            none m.0 (fields_of job later) (is_good m.0 (subst (IsLine job) m.1 line))
+            let line : IsLawfulLine job x = at_of_all (IsLawfulLine job) x lines each (subst (λ (l : List Line). IsIn x l) (sym at.split) (in_right x at.above at.rest here)) in
+            none m.0 (fields_of job later) (is_good m.0 (subst (IsLawfulLine job) m.1 line))
             (at.fields ∙ (ap (fields_of job) is ∙ ap (λ (f : List (List ℕ)). f ∷ fields_of job later) (ap (line_fields (named_workers job.nodes)) m.1 ∙ spelled m.0))) in
             let low = at.reached x here in
             let up : (l : Line) → IsIn l (x ∷ later) → group_of x ≤ group_of l = λ l i. after x later split l i in

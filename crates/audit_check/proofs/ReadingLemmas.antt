@@ -6,7 +6,7 @@ use Rattle.jobs.specs.JobView.{JobView}
 use Rattle.sink_journal.specs.Audit.{audit_header}
 use Rattle.flow_model.proofs.ElementLemmas.{IsIn, all_of_at, all_of_pairs, at_of_all, before_cases, contains_of_in, in_cases, in_of_contains, in_right, pair_of_all}
 use Rattle.audit_laws.specs.declared.audit.Line.{Line}
-use Rattle.audit_laws.specs.Lines.{IsLine, group_of, line_fields}
+use Rattle.audit_laws.specs.Lines.{IsLawfulLine, group_of, line_fields}
 use Rattle.audit_laws.specs.Names.{named_workers}
 use Rattle.audit_laws.specs.Verdict.{AreInShape, HasBadShape, HasNoHeader, fields_of}
 use Rattle.audit_laws.proofs.LineLemmas.{same_line}
@@ -26,7 +26,7 @@ begun job records cells left is header = record {
   above = [];
   fields = is ∙ ap (λ (first : List (List ℕ)). first ∷ left) header;
   number_is = refl;
-  each = all_of_at (IsLine job) [] (λ x i. absurd i);
+  each = all_of_at (IsLawfulLine job) [] (λ x i. absurd i);
   ordered = all_of_pairs (λ a b. group_of a ≤ group_of b) [] (λ x y b. absurd b);
   below = all_of_at (λ earlier. group_of earlier ≤ 0) [] (λ x i. absurd i);
   reached = inl refl;
@@ -41,7 +41,7 @@ begun_above job records cells left is header = refl
 
 module _ (job : JobView) (records : List (List (List ℕ))) (cells : List (List ℕ)) (left : List (List (List ℕ))) (number group : ℕ) (read : AreRead job records (cells ∷ left) number group)
   where
-    pub one_more : (l : Line) → IsLine job l → cells ≡ line_fields (named_workers job.nodes) l → group ≤ group_of l → AreRead job records left (number + 1) (group_of l)
+    pub one_more : (l : Line) → IsLawfulLine job l → cells ≡ line_fields (named_workers job.nodes) l → group ≤ group_of l → AreRead job records left (number + 1) (group_of l)
     one_more l is told le =
         let up : (x : Line) → IsIn x read.above → group_of x ≤ group_of l = λ x i.
         let low = at_of_all (λ earlier. group_of earlier ≤ group) x read.above read.below i in
@@ -56,10 +56,10 @@ module _ (job : JobView) (records : List (List (List ℕ))) (cells : List (List 
               ∙ ap (λ (front : List (List (List ℕ))). front ++ left) (sym (map-append (line_fields (named_workers job.nodes)) read.above (l ∷ [])))));
           number_is = omega (arith, read.number_is, length-append read.above (l ∷ []));
           each =
-              all_of_at (IsLine job) (read.above ++ l ∷ []) (λ x i.
+              all_of_at (IsLawfulLine job) (read.above ++ l ∷ []) (λ x i.
               elim (in_cases x read.above (l ∷ []) i) [
-                | inl a ↦ at_of_all (IsLine job) x read.above read.each a
-                | inr (inl e) ↦ subst (IsLine job) (sym e) is
+                | inl a ↦ at_of_all (IsLawfulLine job) x read.above read.each a
+                | inr (inl e) ↦ subst (IsLawfulLine job) (sym e) is
                 | inr (inr none) ↦ absurd none
               ]);
           ordered =
@@ -81,13 +81,13 @@ module _ (job : JobView) (records : List (List (List ℕ))) (cells : List (List 
           reached = inr (l, contains_of_in l (read.above ++ l ∷ []) (in_right l read.above (l ∷ []) (inl refl)), refl);
         }
 
-    pub one_more_above : (l : Line) (is : IsLine job l) (told : cells ≡ line_fields (named_workers job.nodes) l) (le : group ≤ group_of l)
+    pub one_more_above : (l : Line) (is : IsLawfulLine job l) (told : cells ≡ line_fields (named_workers job.nodes) l) (le : group ≤ group_of l)
         → (one_more l is told le).above ≡ read.above ++ l ∷ []
     unfolding one_more
     one_more_above l is told le = refl
 
     -- a record that tells no line is the first that breaks a rule
-    pub no_such_line : ((l : Line) → IsLine job l → cells ≢ line_fields (named_workers job.nodes) l) → HasBadShape job records number
+    pub no_such_line : ((l : Line) → IsLawfulLine job l → cells ≢ line_fields (named_workers job.nodes) l) → HasBadShape job records number
     no_such_line none = record {
       above = read.above;
       here = cells;
@@ -100,7 +100,7 @@ module _ (job : JobView) (records : List (List (List ℕ))) (cells : List (List 
     }
 
     -- so is a line whose group comes before that of a line above
-    pub out_of_order : IsLawful job → (l : Line) → IsLine job l → cells ≡ line_fields (named_workers job.nodes) l → group_of l < group → HasBadShape job records number
+    pub out_of_order : IsLawful job → (l : Line) → IsLawfulLine job l → cells ≡ line_fields (named_workers job.nodes) l → group_of l < group → HasBadShape job records number
     out_of_order law l is told lt = record {
       above = read.above;
       here = cells;

@@ -10,7 +10,7 @@ use Rattle.std.proofs.lemmas.List.Elements.{All-from_recursion, recursion_from_A
 use Rattle.std.proofs.lemmas.List.Splits.{join_with_byte-slice_split, slice_split_at, slice_split_none}
 use Rattle.std.proofs.lemmas.Option.{same_Some}
 use Rattle.tuple_trace.specs.Digits.{at_most, digits_of}
-use Rattle.payments.specs.Spelling.{number_of, with_sign}
+use Rattle.payments.specs.Spelling.{number_in_text, with_sign}
 use Rattle.payments.proofs.SpellingLemmas.{with_sign_at_most}
 use Rattle.savepoint.proofs.NumberLemmas.{digits-decimal, number-signed}
 use Rattle.sink_journal.specs.Audit.{dotted}
@@ -44,15 +44,15 @@ other_number text limit found lt is ne n le e =
     let same : found ≡ n = same_Some found n (sym is ∙ (ap (λ t. at_most limit (digits_of t)) e ∙ read_back limit n lt le)) in
     ne (e ∙ ap decimal (sym same))
 
-signed_back : (z : ℤ) → mag z < 2 ^ 63 → number_of (signed_decimal z) ≡ Some z
+signed_back : (z : ℤ) → mag z < 2 ^ 63 → number_in_text (signed_decimal z) ≡ Some z
 signed_back z lt = number-signed z (record { sfits = lt })
 
-pub no_signed : (text : List ℕ) → number_of text ≡ None → (z : ℤ) → mag z < 2 ^ 63 → text ≢ signed_decimal z
-no_signed text none z lt e = let some = ap number_of e ∙ signed_back z lt in absurd (cc)
+pub no_signed : (text : List ℕ) → number_in_text text ≡ None → (z : ℤ) → mag z < 2 ^ 63 → text ≢ signed_decimal z
+no_signed text none z lt e = let some = ap number_in_text e ∙ signed_back z lt in absurd (cc)
 
-pub other_signed : (text : List ℕ) (found : ℤ) → number_of text ≡ Some found → text ≢ signed_decimal found → (z : ℤ) → mag z < 2 ^ 63 → text ≢ signed_decimal z
+pub other_signed : (text : List ℕ) (found : ℤ) → number_in_text text ≡ Some found → text ≢ signed_decimal found → (z : ℤ) → mag z < 2 ^ 63 → text ≢ signed_decimal z
 other_signed text found is ne z lt e =
-    let same : found ≡ z = same_Some found z (sym is ∙ (ap number_of e ∙ signed_back z lt)) in
+    let same : found ≡ z = same_Some found z (sym is ∙ (ap number_in_text e ∙ signed_back z lt)) in
     ne (e ∙ ap signed_decimal (sym same))
 
 -- ---- births

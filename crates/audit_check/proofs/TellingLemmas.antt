@@ -13,7 +13,7 @@ use Rattle.flow_model.specs.Workers.{workers_in}
 use Rattle.jobs.specs.JobView.{JobView}
 use Rattle.audit_laws.proofs.TextLemmas.{length-named}
 use Rattle.audit_check.specs.Telling.{IsWithin}
-use Rattle.audit_laws.specs.Lines.{IsLine, count_in, counts_in, entry_in, journal_in}
+use Rattle.audit_laws.specs.Lines.{IsLawfulLine, worker_count_in, counts_in, entry_in, journal_in}
 
 -- ---- lists in which one item is set
 
@@ -72,11 +72,11 @@ one_entry above w e = filter_map-append (entry_in w) above (line.Step w e ∷ []
 pub other_entry : (above : List Line) (v w : ℕ) (e : AuditEntry) → v ≢ w → journal_in (above ++ line.Step w e ∷ []) v ≡ journal_in above v
 other_entry above v w e ne = no_entry above (line.Step w e) v (rw (ne_eqb w v (λ q. ne (sym q))) refl)
 
-pub no_count : (above : List Line) (l : Line) (v : ℕ) → count_in v l ≡ None → counts_in (above ++ l ∷ []) v ≡ counts_in above v
-no_count above l v none = filter_map-append (count_in v) above (l ∷ []) ∙ rw none (append-nil (counts_in above v))
+pub no_count : (above : List Line) (l : Line) (v : ℕ) → worker_count_in v l ≡ None → counts_in (above ++ l ∷ []) v ≡ counts_in above v
+no_count above l v none = filter_map-append (worker_count_in v) above (l ∷ []) ∙ rw none (append-nil (counts_in above v))
 
 pub one_count : (above : List Line) (w : ℕ) (key : List ℕ) (count : ℤ) → counts_in (above ++ line.State w key count ∷ []) w ≡ counts_in above w ++ (key, count) ∷ []
-one_count above w key count = filter_map-append (count_in w) above (line.State w key count ∷ []) ∙ rw (eq-eqb w w refl) refl
+one_count above w key count = filter_map-append (worker_count_in w) above (line.State w key count ∷ []) ∙ rw (eq-eqb w w refl) refl
 
 pub other_count : (above : List Line) (v w : ℕ) (key : List ℕ) (count : ℤ) → v ≢ w → counts_in (above ++ line.State w key count ∷ []) v ≡ counts_in above v
 other_count above v w key count ne = no_count above (line.State w key count) v (rw (ne_eqb w v (λ q. ne (sym q))) refl)
@@ -90,7 +90,7 @@ all_empty {A} (suc workers) (suc v) lt = all_empty {A = A} workers v (omega (ari
 
 -- ---- the worker of a line
 
-pub within_line : (job : JobView) (n : ℕ) (l : Line) → IsLine job l → n ≡ length (workers_in job) → IsWithin n l
+pub within_line : (job : JobView) (n : ℕ) (l : Line) → IsLawfulLine job l → n ≡ length (workers_in job) → IsWithin n l
 within_line job n (line.Refused noted) is e = tt
 within_line job n (line.Feed step) is e = tt
 within_line job n (line.Step w entry) is e = let lt = is.0 in omega (arith, lt, e, length-named 0 0 job.nodes)

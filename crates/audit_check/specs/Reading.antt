@@ -3,7 +3,7 @@ use Rattle.std.specs.Prelude.{◌≡◌, ◌≤◌, ◌+◌, ◌⊎◌, ℕ, All
 use Rattle.jobs.specs.JobView.{JobView}
 use Rattle.sink_journal.specs.Audit.{audit_header}
 use Rattle.audit_laws.specs.declared.audit.Line.{Line}
-use Rattle.audit_laws.specs.Lines.{IsLine, StandInOrder, group_of}
+use Rattle.audit_laws.specs.Lines.{IsLawfulLine, StandInOrder, group_of}
 use Rattle.audit_laws.specs.Verdict.{fields_of}
 
 -- The header and some lines in shape were read, and these records are left. The next record has
@@ -13,7 +13,7 @@ pub record AreRead (job : JobView) (records left : List (List (List ℕ)))
   pub above : List Line
   pub fields : records ≡ audit_header ∷ (fields_of job above ++ left)
   pub number_is : number ≡ 1 + length above
-  pub each : All (IsLine job) above
+  pub each : All (IsLawfulLine job) above
   pub ordered : StandInOrder above
   pub below : All (λ earlier. group_of earlier ≤ group) above
   pub reached :

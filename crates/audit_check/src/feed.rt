@@ -9,9 +9,9 @@ ghost use Rattle.flow_model.specs.Begin.{Begin};
 ghost use Rattle.flow_model.specs.Setup.{setup_view};
 ghost use Rattle.audit_laws.specs.Delivered.{feed_of};
 ghost use Rattle.audit_laws.specs.declared.audit.Line.{Line as LineIs};
-ghost use Rattle.audit_laws.specs.Fits.{records_of};
+ghost use Rattle.audit_laws.specs.Fits.{csv_records};
 ghost use Rattle.audit_laws.specs.Lines.{IsStep, feeds_in, refusals_in};
-ghost use Rattle.audit_laws.specs.Verdict.{AreInShape, IsFaultOf};
+ghost use Rattle.audit_laws.specs.Verdict.{AreInShape, IsFirstFault};
 
 use crate::feeds::step_in;
 use crate::records::six_of;
@@ -37,15 +37,15 @@ pub fn check_feed(
     bytes: &[u8],
 ) -> Result<(), AuditFault>
     requires { (lines : List LineIs) ×
-        AreInShape (setup_view setup.now).job (records_of bytes.now) lines
+        AreInShape (setup_view setup.now).job (csv_records bytes.now) lines
         × (refusals_in lines ≡ refused.now) }
     ensures ok { OnOk result ((lines : List LineIs) →
-        AreInShape (setup_view setup.now).job (records_of bytes.now) lines →
+        AreInShape (setup_view setup.now).job (csv_records bytes.now) lines →
         refusals_in lines ≡ refused.now → feeds_in lines ≡ wanted.now) }
     ensures fault { (begin : Begin) (rows : List RowIs) →
         wanted.now ≡ feed_of begin (setup_view setup.now) rows → IfErr result
-        (IsFaultOf begin (setup_view setup.now) setup.now.job.dag.order refused.now rows
-        (records_of bytes.now)) }
+        (IsFirstFault begin (setup_view setup.now) setup.now.job.dag.order refused.now rows
+        (csv_records bytes.now)) }
 {
     let mut records = TextRecords::of(alloc, bytes);
     let mut cells = ByteRecord::new(alloc);
@@ -69,7 +69,7 @@ fn check_records(
         refusals_in lines ≡ refused.now → feeds_in lines ≡ wanted.now) }
     ensures fault { (begin : Begin) (rows : List RowIs) →
         wanted.now ≡ feed_of begin (setup_view setup.now) rows → IfErr result
-        (IsFaultOf begin (setup_view setup.now) setup.now.job.dag.order refused.now rows
+        (IsFirstFault begin (setup_view setup.now) setup.now.job.dag.order refused.now rows
         records.old) }
 {
     if !records.next(cells)? {

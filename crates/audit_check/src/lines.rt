@@ -3,7 +3,7 @@ ghost use Rattle.std.specs.Prelude.{◌≡◌, ◌≢◌, IfNone, IfOk, IfSome};
 ghost use Rattle.csv.specs.Records.{fields_of};
 ghost use Rattle.flow_model.specs.Setup.{setup_view};
 ghost use Rattle.audit_laws.specs.declared.audit.Line.{Line as LineIs};
-ghost use Rattle.audit_laws.specs.Lines.{IsLine, line_fields};
+ghost use Rattle.audit_laws.specs.Lines.{IsLawfulLine, line_fields};
 ghost use Rattle.audit_laws.specs.Names.{named_workers};
 ghost use Rattle.audit_check.specs.Cells.{cells_of};
 
@@ -25,10 +25,10 @@ pub(crate) fn line_of(
     near: u32,
 ) -> Result<Option<Line>, NoMemory>
     ensures some { IfOk result (λ found. IfSome found (λ line.
-        IsLine (setup_view setup.now).job line × (fields_of cells.now
+        IsLawfulLine (setup_view setup.now).job line × (fields_of cells.now
         ≡ line_fields (named_workers (setup_view setup.now).job.nodes) line))) }
     ensures none { IfOk result (λ found. IfNone found ((line : LineIs) →
-        IsLine (setup_view setup.now).job line → fields_of cells.now
+        IsLawfulLine (setup_view setup.now).job line → fields_of cells.now
         ≢ line_fields (named_workers (setup_view setup.now).job.nodes) line)) }
 {
     match six_of(cells) {
@@ -39,10 +39,10 @@ pub(crate) fn line_of(
 
 fn line_in(alloc: Global, setup: &Setup, six: Six<'_>, near: u32) -> Result<Option<Line>, NoMemory>
     ensures some { IfOk result (λ found. IfSome found (λ line.
-        IsLine (setup_view setup.now).job line × (cells_of six.entry
+        IsLawfulLine (setup_view setup.now).job line × (cells_of six.entry
         ≡ line_fields (named_workers (setup_view setup.now).job.nodes) line))) }
     ensures none { IfOk result (λ found. IfNone found ((line : LineIs) →
-        IsLine (setup_view setup.now).job line → cells_of six.entry
+        IsLawfulLine (setup_view setup.now).job line → cells_of six.entry
         ≢ line_fields (named_workers (setup_view setup.now).job.nodes) line)) }
 {
     if let Some(noted) = refused_in(six) {

@@ -8,10 +8,10 @@ ghost use Rattle.tuple_trace.specs.declared.row.Row.{Row as RowIs};
 ghost use Rattle.flow_model.specs.Begin.{Begin};
 ghost use Rattle.flow_model.specs.Setup.{setup_view};
 ghost use Rattle.audit_laws.specs.declared.audit.Line.{Line as LineIs};
-ghost use Rattle.audit_laws.specs.Fits.{records_of};
+ghost use Rattle.audit_laws.specs.Fits.{csv_records};
 ghost use Rattle.audit_fault.specs.Noting.{IsNoted};
 ghost use Rattle.audit_laws.specs.Lines.{refusals_in};
-ghost use Rattle.audit_laws.specs.Verdict.{AreInShape, IsFaultOf};
+ghost use Rattle.audit_laws.specs.Verdict.{AreInShape, IsFirstFault};
 
 use crate::feeds::refused_in;
 use crate::records::six_of;
@@ -35,13 +35,13 @@ pub fn check_refused(
     bytes: &[u8],
 ) -> Result<(), AuditFault>
     requires { (lines : List LineIs) ×
-        AreInShape (setup_view setup.now).job (records_of bytes.now) lines }
+        AreInShape (setup_view setup.now).job (csv_records bytes.now) lines }
     ensures ok { OnOk result ((lines : List LineIs) →
-        AreInShape (setup_view setup.now).job (records_of bytes.now) lines →
+        AreInShape (setup_view setup.now).job (csv_records bytes.now) lines →
         refusals_in lines ≡ refused.now) }
     ensures fault { (begin : Begin) (rows : List RowIs) → IfErr result
-        (IsFaultOf begin (setup_view setup.now) setup.now.job.dag.order refused.now rows
-        (records_of bytes.now)) }
+        (IsFirstFault begin (setup_view setup.now) setup.now.job.dag.order refused.now rows
+        (csv_records bytes.now)) }
 {
     let mut records = TextRecords::of(alloc, bytes);
     let mut cells = ByteRecord::new(alloc);
@@ -62,7 +62,7 @@ fn check_records(
         AreInShape (setup_view setup.now).job records.old lines →
         refusals_in lines ≡ refused.now) }
     ensures fault { (begin : Begin) (rows : List RowIs) → IfErr result
-        (IsFaultOf begin (setup_view setup.now) setup.now.job.dag.order refused.now rows
+        (IsFirstFault begin (setup_view setup.now) setup.now.job.dag.order refused.now rows
         records.old) }
 {
     if !records.next(cells)? {

@@ -8,9 +8,9 @@ ghost use Rattle.flow_model.specs.Begin.{Begin};
 ghost use Rattle.flow_model.specs.Setup.{setup_view};
 ghost use Rattle.flow_model.specs.Workers.{workers_in};
 ghost use Rattle.audit_laws.specs.declared.audit.Line.{Line as LineIs};
-ghost use Rattle.audit_laws.specs.Fits.{records_of};
+ghost use Rattle.audit_laws.specs.Fits.{csv_records};
 ghost use Rattle.audit_laws.specs.Lines.{group_of as group_of_line};
-ghost use Rattle.audit_laws.specs.Verdict.{AreInShape, IsFaultOf};
+ghost use Rattle.audit_laws.specs.Verdict.{AreInShape, IsFirstFault};
 ghost use Rattle.audit_check.specs.Cells.{cells_of};
 ghost use Rattle.audit_check.specs.Telling.{Tells};
 
@@ -34,11 +34,11 @@ use std::alloc::Global;
 /// The first record that breaks a rule, or out of memory.
 pub fn read_audit(alloc: Global, setup: &Setup, bytes: &[u8]) -> Result<Told, AuditFault>
     ensures ok { IfOk result (λ told. (lines : List LineIs) ×
-        AreInShape (setup_view setup.now).job (records_of bytes.now) lines
+        AreInShape (setup_view setup.now).job (csv_records bytes.now) lines
         × Tells (length (workers_in (setup_view setup.now).job)) lines told) }
     ensures fault { (begin : Begin) (refused : List NotedIs) (rows : List RowIs) → IfErr result
-        (IsFaultOf begin (setup_view setup.now) setup.now.job.dag.order refused rows
-        (records_of bytes.now)) }
+        (IsFirstFault begin (setup_view setup.now) setup.now.job.dag.order refused rows
+        (csv_records bytes.now)) }
 {
     let mut records = TextRecords::of(alloc, bytes);
     let mut cells = ByteRecord::new(alloc);
@@ -56,7 +56,7 @@ fn read_records(
         AreInShape (setup_view setup.now).job records.old lines
         × Tells (length (workers_in (setup_view setup.now).job)) lines told) }
     ensures fault { (begin : Begin) (refused : List NotedIs) (rows : List RowIs) → IfErr result
-        (IsFaultOf begin (setup_view setup.now) setup.now.job.dag.order refused rows
+        (IsFirstFault begin (setup_view setup.now) setup.now.job.dag.order refused rows
         records.old) }
 {
     if !records.next(cells)? {
@@ -83,7 +83,7 @@ fn read_lines(
         AreInShape (setup_view setup.now).job (audit_header ∷ records.old) lines
         × Tells (length (workers_in (setup_view setup.now).job)) lines told.new) }
     ensures fault { (begin : Begin) (refused : List NotedIs) (rows : List RowIs) → IfErr result
-        (IsFaultOf begin (setup_view setup.now) setup.now.job.dag.order refused rows
+        (IsFirstFault begin (setup_view setup.now) setup.now.job.dag.order refused rows
         (audit_header ∷ records.old)) }
 {
     let mut group = 0;

@@ -3,7 +3,7 @@ ghost use Rattle.std.specs.Prelude.{◌≡◌, ◌≢◌, ◌<◌, ◌≤◌, �
 ghost use Rattle.std.specs.Prelude.{IsTrue, List, decimal, map};
 ghost use Rattle.std.specs.Fmt.{signed_decimal};
 ghost use Rattle.std.specs.Int.Signed.{mag};
-ghost use Rattle.payments.specs.Spelling.{after_sign, is_negative, number_of, signed_of};
+ghost use Rattle.payments.specs.Spelling.{after_sign, is_negative, number_in_text, signed_of};
 ghost use Rattle.sink_journal.specs.Audit.{dotted};
 ghost use Rattle.audit_check.specs.Parts.{parts_at_dots, texts_of};
 
@@ -70,7 +70,7 @@ fn is_signed(text: &[u8], count: i64) -> bool
 // The number that an optional `-` and digits spell, if it is an `i64`.
 #[tactic(auto, using(crate::proofs::SpellingLemmas::with_sign_read))]
 fn loosely(text: &[u8]) -> Option<i64>
-    ensures { result ≡ number_of text.now }
+    ensures { result ≡ number_in_text text.now }
 {
     let (negative, rest) = without_sign(text);
     in_range(negative, digits_up_to(rest, u64::MAX)?)

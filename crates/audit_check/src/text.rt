@@ -4,9 +4,9 @@ ghost use Rattle.flow_model.specs.Setup.{setup_view};
 ghost use Rattle.flow_model.specs.Workers.{workers_in};
 ghost use Rattle.audit_laws.specs.Delivered.{feed_of};
 ghost use Rattle.audit_laws.specs.declared.audit.Line.{Line as LineIs};
-ghost use Rattle.audit_laws.specs.Fits.{records_of};
+ghost use Rattle.audit_laws.specs.Fits.{csv_records};
 ghost use Rattle.audit_laws.specs.Lines.{feeds_in, refusals_in};
-ghost use Rattle.audit_laws.specs.Verdict.{AreInShape, IsFaultOf};
+ghost use Rattle.audit_laws.specs.Verdict.{AreInShape, IsFirstFault};
 ghost use Rattle.audit_check.specs.Telling.{Tells};
 
 use crate::{Told, check_feed, check_refused, feed_of_rows, read_audit};
@@ -33,13 +33,13 @@ pub fn check_text(
     ensures feeds { IfOk result (λ both.
         both.1 ≡ feed_of start.now (setup_view setup.now) rows.now) }
     ensures lines { IfOk result (λ both. (lines : List LineIs) ×
-        AreInShape (setup_view setup.now).job (records_of bytes.now) lines
+        AreInShape (setup_view setup.now).job (csv_records bytes.now) lines
         × (refusals_in lines ≡ refused.now)
         × (feeds_in lines ≡ feed_of start.now (setup_view setup.now) rows.now)
         × Tells (length (workers_in (setup_view setup.now).job)) lines both.0) }
     ensures fault { IfErr result
-        (IsFaultOf start.now (setup_view setup.now) setup.now.job.dag.order refused.now
-        rows.now (records_of bytes.now)) }
+        (IsFirstFault start.now (setup_view setup.now) setup.now.job.dag.order refused.now
+        rows.now (csv_records bytes.now)) }
 {
     let told = read_audit(alloc, setup, bytes)?;
     let feeds = checked_feed(alloc, setup, start, refused, rows, bytes)?;
@@ -57,16 +57,16 @@ fn checked_feed(
     bytes: &[u8],
 ) -> Result<Feeds, AuditFault>
     requires { (lines : List LineIs) ×
-        AreInShape (setup_view setup.now).job (records_of bytes.now) lines }
+        AreInShape (setup_view setup.now).job (csv_records bytes.now) lines }
     ensures feeds { IfOk result (λ feeds.
         feeds ≡ feed_of start.now (setup_view setup.now) rows.now) }
     ensures lines { OnOk result ((lines : List LineIs) →
-        AreInShape (setup_view setup.now).job (records_of bytes.now) lines →
+        AreInShape (setup_view setup.now).job (csv_records bytes.now) lines →
         (refusals_in lines ≡ refused.now)
         × (feeds_in lines ≡ feed_of start.now (setup_view setup.now) rows.now)) }
     ensures fault { IfErr result
-        (IsFaultOf start.now (setup_view setup.now) setup.now.job.dag.order refused.now
-        rows.now (records_of bytes.now)) }
+        (IsFirstFault start.now (setup_view setup.now) setup.now.job.dag.order refused.now
+        rows.now (csv_records bytes.now)) }
 {
     check_refused(alloc, setup, refused, bytes)?;
     let feeds = feed_of_rows(alloc, setup, start, rows)?;

@@ -3,7 +3,7 @@ ghost use Rattle.std.specs.Prelude.{◌≡◌, ◌<◌, ◌↔◌, IfErr, IfOk, 
 ghost use Rattle.flow_model.specs.Setup.{setup_view};
 ghost use Rattle.flow_model.specs.Workers.{nth_worker, workers_in};
 ghost use Rattle.audit_laws.specs.Checked.{IsFinishedDraft};
-ghost use Rattle.audit_laws.specs.Faults.{AreFinished};
+ghost use Rattle.audit_laws.specs.Faults.{AreTrimmedFinished};
 ghost use Rattle.audit_journal.specs.Course.{IsFaultOfLaw};
 
 use crate::course::Course;
@@ -26,7 +26,8 @@ pub fn check_law(
     audit: &[Items<AuditEntry>],
 ) -> Result<(), AuditFault>
     requires { length audit.now ≡ length (workers_in (setup_view setup.now).job) }
-    ensures ok { OnOk result (AreFinished start.now (setup_view setup.now) rows.now audit.now) }
+    ensures ok { OnOk result
+        (AreTrimmedFinished start.now (setup_view setup.now) rows.now audit.now) }
     ensures fault { IfErr result (IsFaultOfLaw start.now (setup_view setup.now) rows.now
         audit.now) }
 {

@@ -13,7 +13,7 @@ use Rattle.flow_model.specs.declared.topology.Lane.{Lane}
 use Rattle.flow_model.specs.Begin.{Begin, view_at}
 use Rattle.flow_model.specs.Feeding.{fed}
 use Rattle.flow_model.specs.SetupView.{SetupView, Worker}
-use Rattle.flow_model.specs.Replay.{came_in, sent, shown}
+use Rattle.flow_model.specs.Replay.{came_in, items_sent, shown}
 use Rattle.flow_model.specs.Run.{put_by, ran_as, sent_by}
 use Rattle.flow_model.specs.Workers.{workers_in}
 use Rattle.flow_model.proofs.AgreementLemmas.{met_shown}
@@ -31,7 +31,7 @@ HasEach P journal = (l : ℕ) (t : Tuple) → IsIn (entry.Met l t) journal → P
 -- a worker sends only tuples that have the property, if it meets only these
 abbrev pub SendsEach : Begin → SetupView → (Tuple → Type 0) → Worker → List Entry → Type 0
 SendsEach begin setup P who journal =
-    HasEach P journal → (counts : Counts) (lane : Lane) (t : Tuple) → IsIn (item.Carry t) (sent setup who (view_at setup begin.turned who counts) lane journal) → P t
+    HasEach P journal → (counts : Counts) (lane : Lane) (t : Tuple) → IsIn (item.Carry t) (items_sent setup who (view_at setup begin.turned who counts) lane journal) → P t
 
 module _ (begin : Begin) (setup : SetupView) (connected : IsConnected setup.job) (rows : List Row) (journals : List (List Entry))
     (conserved : (w : ℕ) (who : Worker) → slice_get (workers_in setup.job) w ≡ Some who → IsConservedAt begin setup rows journals w) (P : Tuple → Type 0)
@@ -55,8 +55,8 @@ module _ (begin : Begin) (setup : SetupView) (connected : IsConnected setup.job)
         → sent_by setup begin lane (Some q) c (Some journal) ≡ Some items → IsIn (item.Carry t) items → P t
     by_counts lane items t q journal None there j h e i = absurd (cc)
     by_counts lane items t q journal (Some counts) there j h e i =
-        let s : sent setup q (view_at setup begin.turned q counts) lane journal ≡ items =
-        same_Some (sent setup q (view_at setup begin.turned q counts) lane journal) items e in
+        let s : items_sent setup q (view_at setup begin.turned q counts) lane journal ≡ items =
+        same_Some (items_sent setup q (view_at setup begin.turned q counts) lane journal) items e in
         sends_each q.number q journal there j h counts lane t (subst (λ (l : List Item). IsIn (item.Carry t) l) (sym s) i)
 
     by_sender : (bound from : ℕ) (lane : Lane) (items : List Item) (t : Tuple) (o : Option ℕ) → Before bound

@@ -29,7 +29,7 @@ use Rattle.audit_laws.specs.declared.audit.Line.TheVariants as line
 use Rattle.audit_laws.specs.Delivered.{feed_of}
 use Rattle.audit_laws.specs.Faults.{Listed}
 use Rattle.audit_fault.specs.Noting.{IsNoted}
-use Rattle.audit_laws.specs.Lines.{IsEntryAt, IsLine, IsStep, lines_from, lines_of, worker_lines}
+use Rattle.audit_laws.specs.Lines.{IsEntryAt, IsLawfulLine, IsStep, lines_from, lines_of, worker_lines}
 use Rattle.audit_laws.specs.Names.{named_workers}
 use Rattle.audit_laws.specs.Range.{BeginsInRange}
 use Rattle.audit_laws.specs.Trimmed.{trim, trimmed}
@@ -83,7 +83,7 @@ module _ (begin : Begin) (begins : BeginsInRange begin) (setup : SetupView) (law
     entry_form w journal (entry.Ended l) names narrow i = names
 
     worker_form : (w : ℕ) (journal : List Entry) (state : Counts) (y : Line) → slice_get journals w ≡ Some journal → slice_get states w ≡ Some state
-        → IsIn y (worker_lines w (trimmed journal) (entries state)) → IsLine setup.job y
+        → IsIn y (worker_lines w (trimmed journal) (entries state)) → IsLawfulLine setup.job y
     worker_form w journal state y j s i =
         let lt : w < length (workers_in setup.job) = let l = slice_get_within journals w journal j in omega (arith, l, run.one_journal_each) in
         let p = item_at (workers_in setup.job) w lt in
@@ -102,29 +102,29 @@ module _ (begin : Begin) (begins : BeginsInRange begin) (setup : SetupView) (law
               let narrow : HasEach (IsNarrow (length rows)) journal =
               each_narrow begin setup law connected kinds rows are journals (conserved_by_run begin setup rows journals states run) w p.0 journal p.1 j in
               let form : IsEntryAt setup.job w e.0 = subst (IsEntryAt setup.job w) (sym x.2) (entry_form w journal x.0 names narrow x.1) in
-              subst (IsLine setup.job) (sym e.2) (named, form)
+              subst (IsLawfulLine setup.job) (sym e.2) (named, form)
           | inr b ↦
               let c = in_map (λ counted. line.State w counted.0 counted.1) y (entries state) b in
               let last : state ≡ final_counts setup begin p.0 here.counts here.journal = sym two ∙ here.worked.state_is in
               let range : EachInRange (entries state) =
               subst (λ (counts : Counts). EachInRange (entries counts)) (sym last)
               (all_range setup p.0 (view_at setup begin.turned p.0 here.counts) here.journal (begin_range begin.states w here.counts begins here.begins)) in
-              subst (IsLine setup.job) (sym c.2) (named, range c.0 c.1)
+              subst (IsLawfulLine setup.job) (sym c.2) (named, range c.0 c.1)
         ]
 
     -- the lines of a run have their form, if the refused requests are noted as they are to be
-    pub run_form : (refused : List Noted) → All IsNoted refused → All (IsLine setup.job) (lines_of refused (feed_of begin setup rows) (map trimmed journals) (map entries states))
+    pub run_form : (refused : List Noted) → All IsNoted refused → All (IsLawfulLine setup.job) (lines_of refused (feed_of begin setup rows) (map trimmed journals) (map entries states))
     run_form refused noted =
-        all_of_at (IsLine setup.job) (lines_of refused (feed_of begin setup rows) (map trimmed journals) (map entries states)) (λ y i.
+        all_of_at (IsLawfulLine setup.job) (lines_of refused (feed_of begin setup rows) (map trimmed journals) (map entries states)) (λ y i.
         elim (in_cases y (map line.Refused refused) (map line.Feed (feed_of begin setup rows) ++ lines_from 0 (map trimmed journals) (map entries states)) i) [
           | inl a ↦
               let r = in_map line.Refused y refused a in
-              subst (IsLine setup.job) (sym r.2) (at_of_all IsNoted r.0 refused noted r.1)
+              subst (IsLawfulLine setup.job) (sym r.2) (at_of_all IsNoted r.0 refused noted r.1)
           | inr b ↦
               elim (in_cases y (map line.Feed (feed_of begin setup rows)) (lines_from 0 (map trimmed journals) (map entries states)) b) [
                 | inl c ↦
                     let r = in_map line.Feed y (feed_of begin setup rows) c in
-                    subst (IsLine setup.job) (sym r.2) (feed_form r.0 (feed_among begin.row begin.turned (afters setup.requests) (length rows) r.0 r.1))
+                    subst (IsLawfulLine setup.job) (sym r.2) (feed_form r.0 (feed_among begin.row begin.turned (afters setup.requests) (length rows) r.0 r.1))
                 | inr d ↦
                     let r = in_workers 0 (map trimmed journals) (map entries states) y d in
                     let j = of_image trimmed journals r.0 r.1 r.3 in

@@ -14,10 +14,10 @@ use Rattle.tuple_trace.specs.declared.row.Row.{Row}
 use Rattle.tuple_trace.specs.declared.tuple.Item.TheVariants as item
 use Rattle.tuple_trace.specs.declared.tuple.Tuple.{Tuple}
 use Rattle.flow_model.specs.Begin.{Begin, view_at}
-use Rattle.flow_model.specs.Feeding.{fed, fed_put, fed_puts, fed_tuple, row_at}
+use Rattle.flow_model.specs.Feeding.{fed, fed_put, fed_puts, fed_tuple, row_numbered}
 use Rattle.flow_model.specs.SetupView.{SetupView, Worker}
 use Rattle.flow_model.specs.declared.topology.Lane.{Lane}
-use Rattle.flow_model.specs.Replay.{StateView, Put, after, items_on, put_out, puts, sent, visit_at}
+use Rattle.flow_model.specs.Replay.{StateView, Put, after, items_on, put_out, puts, items_sent, visit_at}
 use Rattle.flow_model.specs.Requests.{afters}
 use Rattle.flow_model.specs.Workers.{workers_in}
 use Rattle.flow_model.proofs.ElementLemmas.{IsIn, in_cases, in_map, place_of_in}
@@ -38,7 +38,7 @@ put_issued : (job : JobView) (rows : List Row) (k issued : ℕ) (feeds : List Fe
     → IsIn p (fed_puts job rows issued feeds) → p.item ≡ item.Carry t → (k < t.row) × (t.issued ≡ issued_before t.row issued feeds)
 put_issued job rows k issued [] p t are f h e = absurd h
 put_issued job rows k issued (feed.Fed n ∷ more) p t are f h e =
-    go (row_at rows n) refl h (λ i. later (put_issued job rows n issued more p t are f.1 i e))
+    go (row_numbered rows n) refl h (λ i. later (put_issued job rows n issued more p t are f.1 i e))
   where
     later : (n < t.row) × (t.issued ≡ issued_before t.row issued more) → (k < t.row) × (t.issued ≡ cond (n == t.row) issued (issued_before t.row issued more))
     later r =
@@ -46,7 +46,7 @@ put_issued job rows k issued (feed.Fed n ∷ more) p t are f h e =
         let up : k < n = f.0 in
         (omega arith, rw (ne_eqb n t.row (λ same. omega arith)) r.1)
 
-    go : (o : Option Row) → row_at rows n ≡ o → IsIn p (fed_put job issued o ++ fed_puts job rows issued more)
+    go : (o : Option Row) → row_numbered rows n ≡ o → IsIn p (fed_put job issued o ++ fed_puts job rows issued more)
         → (IsIn p (fed_puts job rows issued more) → (k < t.row) × (t.issued ≡ cond (n == t.row) issued (issued_before t.row issued more)))
         → (k < t.row) × (t.issued ≡ cond (n == t.row) issued (issued_before t.row issued more))
     go None g i later = later i
@@ -88,10 +88,10 @@ carried_put setup who view (entry.Marked l r) p t i e = absurd i
 carried_put setup who view (entry.Turned r) p t i e = let m = (puts_come setup who view (entry.Turned r) p i).2 in absurd (cc)
 carried_put setup who view (entry.Ended l) p t i e = let m = puts_come setup who view (entry.Ended l) p i in absurd (cc)
 
-carried_sent : (setup : SetupView) (who : Worker) (view : StateView) (lane : Lane) (xs : List Entry) (t : Tuple) → IsIn (item.Carry t) (sent setup who view lane xs) → IsSentOf xs t
+carried_sent : (setup : SetupView) (who : Worker) (view : StateView) (lane : Lane) (xs : List Entry) (t : Tuple) → IsIn (item.Carry t) (items_sent setup who view lane xs) → IsSentOf xs t
 carried_sent setup who view lane [] t i = absurd i
 carried_sent setup who view lane (x ∷ xs) t i =
-    elim (in_cases (item.Carry t) (items_on lane (puts setup who view x)) (sent setup who (after setup who view x) lane xs) i) [
+    elim (in_cases (item.Carry t) (items_on lane (puts setup who view x)) (items_sent setup who (after setup who view x) lane xs) i) [
       | inl a ↦
           let p = in_items lane (puts setup who view x) (item.Carry t) a in
           let r : IsSentOf (x ∷ []) t = carried_put setup who view x p.0 t p.1 (sym p.3) in

@@ -11,7 +11,7 @@ use Rattle.audit_laws.specs.declared.audit.AuditEntry.{AuditEntry}
 use Rattle.audit_laws.specs.declared.audit.AuditEntry.TheVariants as kept
 use Rattle.audit_laws.specs.declared.audit.Line.{Line}
 use Rattle.audit_laws.specs.declared.audit.Line.TheVariants as line
-use Rattle.audit_laws.specs.Lines.{IsEntryAt, IsLine, count_fields, fields_by, kept_fields, line_fields}
+use Rattle.audit_laws.specs.Lines.{IsEntryAt, IsLawfulLine, count_fields, fields_by, kept_fields, line_fields}
 use Rattle.audit_laws.specs.Names.{Named, named_workers}
 use Rattle.audit_laws.proofs.BirthLemmas.{AreSmall, same_births}
 
@@ -77,7 +77,7 @@ same_entry job w v x y e f p q h n = absurd (omega (arith, ap sum n))
 
 -- ---- lines
 
-pub line_named : (job : JobView) (l : Line) → IsLine job l → field 0 (line_fields (named_workers job.nodes) l) ≡ name_of l
+pub line_named : (job : JobView) (l : Line) → IsLawfulLine job l → field 0 (line_fields (named_workers job.nodes) l) ≡ name_of l
 line_named job (line.Refused noted) h = refl
 line_named job (line.Feed (feed.Fed row)) h = refl
 line_named job (line.Feed (feed.Issued request)) h = refl
@@ -105,7 +105,7 @@ small_code a b p q e =
     decimal_injective a b (omega arith) (omega arith) tail
 
 module _ (job : JobView) (told : AreTold job) where
-  same_step : (w v : ℕ) (e f : AuditEntry) → IsLine job (line.Step w e) → IsLine job (line.Step v f)
+  same_step : (w v : ℕ) (e f : AuditEntry) → IsLawfulLine job (line.Step w e) → IsLawfulLine job (line.Step v f)
       → line_fields (named_workers job.nodes) (line.Step w e) ≡ line_fields (named_workers job.nodes) (line.Step v f) → entry_name e ≡ entry_name f → line.Step w e ≡ line.Step v f
   same_step w v e f p q h n =
       let x = item_at (named_workers job.nodes) w p.0 in
@@ -118,7 +118,7 @@ module _ (job : JobView) (told : AreTold job) where
       let number : w ≡ v = told w v x.0 y.0 x.1 y.1 (sym a.0 ∙ (ap (field 1) g ∙ b.0)) (sym a.1 ∙ (ap (field 2) g ∙ b.1)) in
       ap₂ line.Step number same
 
-  same_state : (w v : ℕ) (key other : List ℕ) (count number : ℤ) → IsLine job (line.State w key count) → IsLine job (line.State v other number)
+  same_state : (w v : ℕ) (key other : List ℕ) (count number : ℤ) → IsLawfulLine job (line.State w key count) → IsLawfulLine job (line.State v other number)
       → line_fields (named_workers job.nodes) (line.State w key count) ≡ line_fields (named_workers job.nodes) (line.State v other number) → line.State w key count ≡ line.State v other number
   same_state w v key other count number p q h =
       let x = item_at (named_workers job.nodes) w p.0 in
@@ -130,7 +130,7 @@ module _ (job : JobView) (told : AreTold job) where
       let text : key ≡ other = ap (field 5) g in
       λ i. line.State (at i) (text i) (value i)
 
-  by_name : (a b : Line) → IsLine job a → IsLine job b → line_fields (named_workers job.nodes) a ≡ line_fields (named_workers job.nodes) b → name_of a ≡ name_of b → a ≡ b
+  by_name : (a b : Line) → IsLawfulLine job a → IsLawfulLine job b → line_fields (named_workers job.nodes) a ≡ line_fields (named_workers job.nodes) b → name_of a ≡ name_of b → a ≡ b
   by_name (line.Refused noted) (line.Refused other) p q h n =
       let at : noted.place ≡ other.place = decimal_injective noted.place other.place (wide noted.place p.0) (wide other.place q.0) (ap (field 4) h) in
       let is : noted.code ≡ other.code = small_code noted.code other.code p.2 q.2 (ap (field 5) h) in
@@ -165,5 +165,5 @@ module _ (job : JobView) (told : AreTold job) where
   by_name a b p q h n = absurd (omega (arith, ap sum n))
 
   -- two lines with the same fields are the same
-  pub same_line : (a b : Line) → IsLine job a → IsLine job b → line_fields (named_workers job.nodes) a ≡ line_fields (named_workers job.nodes) b → a ≡ b
+  pub same_line : (a b : Line) → IsLawfulLine job a → IsLawfulLine job b → line_fields (named_workers job.nodes) a ≡ line_fields (named_workers job.nodes) b → a ≡ b
   same_line a b p q h = by_name a b p q h (sym (line_named job a p) ∙ (ap (field 0) h ∙ line_named job b q))

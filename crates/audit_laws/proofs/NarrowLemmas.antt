@@ -22,10 +22,10 @@ use Rattle.versions.specs.Kept.{KeepKinds}
 use Rattle.versions.specs.declared.request.Change.{Change}
 use Rattle.flow_model.specs.declared.topology.Lane.{Lane}
 use Rattle.flow_model.specs.Begin.{Begin, view_at}
-use Rattle.flow_model.specs.Feeding.{fed, fed_puts, fed_tuple, row_at}
+use Rattle.flow_model.specs.Feeding.{fed, fed_puts, fed_tuple, row_numbered}
 use Rattle.flow_model.specs.SetupView.{SetupView, Worker}
 use Rattle.flow_model.specs.Replay.{StateView, Put, put_out, puts, visit_at}
-use Rattle.flow_model.specs.Requests.{change_of, func_after, func_with}
+use Rattle.flow_model.specs.Requests.{change_by, func_after, func_with}
 use Rattle.flow_model.specs.Workers.{workers_in}
 use Rattle.flow_model.proofs.ElementLemmas.{IsIn, all_of_at, in_flat_map, in_map, place_of_in}
 use Rattle.flow_model.proofs.JobLemmas.{IsConnected}
@@ -45,7 +45,7 @@ IsNarrow rows t = (t.row ≤ rows) × AreNarrow t.birth
 
 -- ---- what the feeder puts
 
-row_within : (rows : List Row) (number : ℕ) (row : Row) → row_at rows number ≡ Some row → number ≤ length rows
+row_within : (rows : List Row) (number : ℕ) (row : Row) → row_numbered rows number ≡ Some row → number ≤ length rows
 row_within rows zero row g = absurd (cc)
 row_within rows (suc place) row g = let lt = slice_get_within rows place row g in omega arith
 
@@ -104,9 +104,9 @@ narrow_put rows setup who view (entry.Ended l) p t fits h i e = let m = puts_com
 -- what is in force at a node that has turned the first requests, it was given
 given_turned : (setup : SetupView) (node : ℕ) (first : Func) (turned : ℕ) → IsGiven setup node first (func_after setup node first turned)
 given_turned setup node first zero = inl refl
-given_turned setup node first (suc r) = go (change_of setup (suc r) node) refl (given_turned setup node first r)
+given_turned setup node first (suc r) = go (change_by setup (suc r) node) refl (given_turned setup node first r)
   where
-    go : (o : Option Change) → change_of setup (suc r) node ≡ o → IsGiven setup node first (func_after setup node first r)
+    go : (o : Option Change) → change_by setup (suc r) node ≡ o → IsGiven setup node first (func_after setup node first r)
         → IsGiven setup node first (func_with o (func_after setup node first r))
     go None e a = a
     go (Some change) e a = inr (suc r, change, e, refl)

@@ -25,7 +25,7 @@ use Rattle.audit_fault.specs.declared.fault.AuditFault.{AuditFault}
 use Rattle.audit_fault.specs.declared.fault.AuditFault.TheVariants as fault
 use Rattle.audit_laws.specs.Delivered.{delivered, feed_of}
 use Rattle.audit_laws.specs.Drafted.{draft, drafted}
-use Rattle.audit_laws.specs.Faults.{AreFinished, AreItems, ComesBefore, HasBadLane, HasBadLaw, HasBadState, IsFaultOfWorkers, IsRestored, Listed}
+use Rattle.audit_laws.specs.Faults.{AreTrimmedFinished, AreItems, ComesBefore, HasBadLane, HasBadLaw, HasBadState, IsFaultOfWorkers, IsRestored, Listed}
 use Rattle.audit_laws.specs.Trimmed.{trim, trimmed}
 use Rattle.audit_laws.proofs.CheckedLemmas.{met_by_draft}
 use Rattle.audit_laws.proofs.FaultLemmas.{brings_same, in_order, order_below, order_forward}
@@ -43,7 +43,7 @@ before_trans order a b c (inr (node, x)) (inr (other, y)) = inr (node ∙ other,
 
 module _ (begin : Begin) (setup : SetupView) (order : List ℕ) (connected : IsConnected setup.job) (up : (a b : ℕ) → connected.rank a < connected.rank b → place_of order a < place_of order b)
     (one_place : (a b : Worker) (v w : ℕ) → slice_get (workers_in setup.job) v ≡ Some a → slice_get (workers_in setup.job) w ≡ Some b → place_of order a.node ≡ place_of order b.node → a.node ≡ b.node)
-    (rows : List Row) (audit : List (List AuditEntry)) (finished : AreFinished begin setup rows audit)
+    (rows : List Row) (audit : List (List AuditEntry)) (finished : AreTrimmedFinished begin setup rows audit)
   where
     conserved : (journals : List (List Entry)) (w : ℕ) (who : Worker) → slice_get (workers_in setup.job) w ≡ Some who → IsRestored begin setup rows audit journals w → IsConservedAt begin setup rows journals w
     conserved journals w who p r = record {
@@ -171,7 +171,7 @@ one_law begin setup rows audit v w h k =
       | inr ge ↦ elim (cases_lt w v) [ inl lt ↦ absurd (k.unfinished (h.least w k.who k.journal lt k.works k.there)) | inr le ↦ omega arith ]
     ]
 
-pub law_or_more : (begin : Begin) (setup : SetupView) (rows : List Row) (audit : List (List AuditEntry)) (w : ℕ) → HasBadLaw begin setup rows audit w → AreFinished begin setup rows audit → ⊥
+pub law_or_more : (begin : Begin) (setup : SetupView) (rows : List Row) (audit : List (List AuditEntry)) (w : ℕ) → HasBadLaw begin setup rows audit w → AreTrimmedFinished begin setup rows audit → ⊥
 law_or_more begin setup rows audit w h finished = h.unfinished (finished w h.who h.journal h.works h.there)
 
 -- ---- by the types of a setup and of rows
@@ -198,7 +198,7 @@ module _ (begin : Begin) (setup : SetupView) (dag : DagView) (connected : IsConn
     IsFault f = IsFaultOfWorkers begin setup dag.order rows audit states f
 
     -- all journals are restored, so no lane is bad
-    pub lane_or_all : (journals : List (List Entry)) (n : ℕ) → AreFinished begin setup rows audit → HasBadLane begin setup dag.order rows audit n
+    pub lane_or_all : (journals : List (List Entry)) (n : ℕ) → AreTrimmedFinished begin setup rows audit → HasBadLane begin setup dag.order rows audit n
         → ((v : ℕ) (p : Worker) → slice_get (workers_in setup.job) v ≡ Some p → IsRestored begin setup rows audit journals v) → ⊥
     lane_or_all journals n f h k = lane_or_restored begin setup dag.order by_order (λ a b lt. lt) (one_place_of setup dag nodes) rows audit f journals n h k
 
@@ -211,7 +211,7 @@ module _ (begin : Begin) (setup : SetupView) (dag : DagView) (connected : IsConn
     law_alone w (fault.State v) some h k = absurd (law_or_more begin setup rows audit w h k.0)
     law_alone w fault.NoMemory some h k = absurd (some refl)
 
-    lane_alone : (n : ℕ) (g : AuditFault) → (g ≡ fault.NoMemory → ⊥) → AreFinished begin setup rows audit → HasBadLane begin setup dag.order rows audit n → IsFault g → fault.Lane n ≡ g
+    lane_alone : (n : ℕ) (g : AuditFault) → (g ≡ fault.NoMemory → ⊥) → AreTrimmedFinished begin setup rows audit → HasBadLane begin setup dag.order rows audit n → IsFault g → fault.Lane n ≡ g
     lane_alone n (fault.Shape i) some f h k = absurd k
     lane_alone n (fault.Refused i) some f h k = absurd k
     lane_alone n (fault.Feed i) some f h k = absurd k
@@ -220,7 +220,7 @@ module _ (begin : Begin) (setup : SetupView) (dag : DagView) (connected : IsConn
     lane_alone n (fault.State v) some f h k = absurd (lane_or_state begin setup dag.order by_order (λ a b lt. lt) (one_place_of setup dag nodes) rows audit f states n v h k.1)
     lane_alone n fault.NoMemory some f h k = absurd (some refl)
 
-    state_alone : (w : ℕ) (g : AuditFault) → (g ≡ fault.NoMemory → ⊥) → AreFinished begin setup rows audit → HasBadState begin setup rows audit states w → IsFault g → fault.State w ≡ g
+    state_alone : (w : ℕ) (g : AuditFault) → (g ≡ fault.NoMemory → ⊥) → AreTrimmedFinished begin setup rows audit → HasBadState begin setup rows audit states w → IsFault g → fault.State w ≡ g
     state_alone w (fault.Shape i) some f h k = absurd k
     state_alone w (fault.Refused i) some f h k = absurd k
     state_alone w (fault.Feed i) some f h k = absurd k

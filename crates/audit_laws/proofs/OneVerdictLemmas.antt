@@ -17,9 +17,9 @@ use Rattle.audit_fault.specs.declared.fault.AuditFault.{AuditFault}
 use Rattle.audit_fault.specs.declared.fault.AuditFault.TheVariants as fault
 use Rattle.audit_laws.specs.Delivered.{feed_of}
 use Rattle.audit_laws.specs.Faults.{IsFaultOfWorkers}
-use Rattle.audit_laws.specs.Lines.{IsLine, StandInOrder, counts_in, feeds_in, group_of, journal_in, line_fields, refusals_in}
+use Rattle.audit_laws.specs.Lines.{IsLawfulLine, StandInOrder, counts_in, feeds_in, group_of, journal_in, line_fields, refusals_in}
 use Rattle.audit_laws.specs.Names.{named_workers}
-use Rattle.audit_laws.specs.Verdict.{AreInShape, DifferFirst, HasBadShape, HasNoHeader, IsFaultOf, by_worker}
+use Rattle.audit_laws.specs.Verdict.{AreInShape, DifferFirst, HasBadShape, HasNoHeader, IsFirstFault, by_worker}
 use Rattle.audit_laws.proofs.LineLemmas.{AreTold}
 use Rattle.audit_laws.proofs.NamedLemmas.{are_told}
 use Rattle.audit_laws.proofs.OneFaultLemmas.{one_fault}
@@ -62,10 +62,10 @@ shape_before job told records i j a b lt =
     let e : map (line_fields (named_workers job.nodes)) a.above ++ a.here ∷ a.later ≡ map (line_fields (named_workers job.nodes)) b.above ++ b.here ∷ b.later =
     behind audit_header audit_header _ _ (sym a.fields ∙ b.fields) in
     let r = past_front (line_fields (named_workers job.nodes)) a.above b.above a.here b.here a.later b.later e lt in
-    let each : All (IsLine job) (r.0 ++ r.1 ∷ r.2) = subst (All (IsLine job)) r.3 b.each in
+    let each : All (IsLawfulLine job) (r.0 ++ r.1 ∷ r.2) = subst (All (IsLawfulLine job)) r.3 b.each in
     let ordered : StandInOrder (r.0 ++ r.1 ∷ r.2) = subst StandInOrder r.3 b.ordered in
-    let is : IsLine job r.1 = at_of_all (IsLine job) r.1 (r.0 ++ r.1 ∷ r.2) each (in_right r.1 r.0 (r.1 ∷ r.2) (inl refl)) in
-    let front : All (IsLine job) r.0 = all_of_at (IsLine job) r.0 (λ x j. at_of_all (IsLine job) x (r.0 ++ r.1 ∷ r.2) each (in_left x r.0 (r.1 ∷ r.2) j)) in
+    let is : IsLawfulLine job r.1 = at_of_all (IsLawfulLine job) r.1 (r.0 ++ r.1 ∷ r.2) each (in_right r.1 r.0 (r.1 ∷ r.2) (inl refl)) in
+    let front : All (IsLawfulLine job) r.0 = all_of_at (IsLawfulLine job) r.0 (λ x j. at_of_all (IsLawfulLine job) x (r.0 ++ r.1 ∷ r.2) each (in_left x r.0 (r.1 ∷ r.2) j)) in
     let above : r.0 ≡ a.above = same_lines job told r.0 a.above front a.each r.4 in
     a.misshapen r.1 is (sym r.5) (
     subst (λ (ls : List Line). All (λ earlier. group_of earlier ≤ group_of r.1) ls) above (
@@ -91,10 +91,10 @@ module _ (begin : Begin) (setup : SetupView) (dag : DagView) (connected : IsConn
     OfShape f = (i : ℕ) × (f ≡ fault.Shape i) × (((i ≡ 0) × HasNoHeader records) ⊎ HasBadShape setup.job records i)
 
     abbrev OfRefused : AuditFault → Type 0
-    OfRefused f = (i : ℕ) × (f ≡ fault.Refused i) × IsFaultOf begin setup dag.order refused rows records (fault.Refused i)
+    OfRefused f = (i : ℕ) × (f ≡ fault.Refused i) × IsFirstFault begin setup dag.order refused rows records (fault.Refused i)
 
     abbrev OfFeed : AuditFault → Type 0
-    OfFeed f = (i : ℕ) × (f ≡ fault.Feed i) × IsFaultOf begin setup dag.order refused rows records (fault.Feed i)
+    OfFeed f = (i : ℕ) × (f ≡ fault.Feed i) × IsFirstFault begin setup dag.order refused rows records (fault.Feed i)
 
     abbrev OfWorkers : AuditFault → Type 0
     OfWorkers f =
@@ -104,7 +104,7 @@ module _ (begin : Begin) (setup : SetupView) (dag : DagView) (connected : IsConn
     abbrev Sorted : AuditFault → Type 0
     Sorted f = OfShape f ⊎ (OfRefused f ⊎ (OfFeed f ⊎ OfWorkers f))
 
-    sort : (f : AuditFault) → (f ≡ fault.NoMemory → ⊥) → IsFaultOf begin setup dag.order refused rows records f → Sorted f
+    sort : (f : AuditFault) → (f ≡ fault.NoMemory → ⊥) → IsFirstFault begin setup dag.order refused rows records f → Sorted f
     sort (fault.Shape i) some h = inl (i, refl, h)
     sort (fault.Refused i) some h = inr (inl (i, refl, h))
     sort (fault.Feed i) some h = inr (inr (inl (i, refl, h)))
@@ -127,21 +127,21 @@ module _ (begin : Begin) (setup : SetupView) (dag : DagView) (connected : IsConn
     shapes i j (inr h) (inr k) = one_shape setup.job told records i j h k
 
     -- the refused requests differ, where a later code needs them equal
-    pub refused_first : (i : ℕ) (lines : List Line) → IsFaultOf begin setup dag.order refused rows records (fault.Refused i) → AreInShape setup.job records lines → refusals_in lines ≡ refused → ⊥
+    pub refused_first : (i : ℕ) (lines : List Line) → IsFirstFault begin setup dag.order refused rows records (fault.Refused i) → AreInShape setup.job records lines → refusals_in lines ≡ refused → ⊥
     refused_first i lines h s e =
         no_difference (refusals_in h.0) refused h.1 (ap refusals_in (one_reading setup.job told records h.0 lines h.2 s) ∙ e) h.4
 
-    pub feed_first : (i : ℕ) (lines : List Line) → IsFaultOf begin setup dag.order refused rows records (fault.Feed i) → AreInShape setup.job records lines → feeds_in lines ≡ feed_of begin setup rows → ⊥
+    pub feed_first : (i : ℕ) (lines : List Line) → IsFirstFault begin setup dag.order refused rows records (fault.Feed i) → AreInShape setup.job records lines → feeds_in lines ≡ feed_of begin setup rows → ⊥
     feed_first i lines h s e =
         no_difference (feeds_in h.0) (feed_of begin setup rows) h.1 (ap feeds_in (one_reading setup.job told records h.0 lines h.2 s) ∙ e) h.5
 
-    refusals : (i j : ℕ) → IsFaultOf begin setup dag.order refused rows records (fault.Refused i) → IsFaultOf begin setup dag.order refused rows records (fault.Refused j) → i ≡ j
+    refusals : (i j : ℕ) → IsFirstFault begin setup dag.order refused rows records (fault.Refused i) → IsFirstFault begin setup dag.order refused rows records (fault.Refused j) → i ≡ j
     refusals i j h k =
         let e : refusals_in h.0 ≡ refusals_in k.0 = ap refusals_in (one_reading setup.job told records h.0 k.0 h.2 k.2) in
         let at : h.1 ≡ k.1 = one_place (refusals_in k.0) refused h.1 k.1 (subst (λ (l : List Noted). DifferFirst l refused h.1) e h.4) k.4 in
         h.3 ∙ (ap (λ n. 1 + n) at ∙ sym k.3)
 
-    steps : (i j : ℕ) → IsFaultOf begin setup dag.order refused rows records (fault.Feed i) → IsFaultOf begin setup dag.order refused rows records (fault.Feed j) → i ≡ j
+    steps : (i j : ℕ) → IsFirstFault begin setup dag.order refused rows records (fault.Feed i) → IsFirstFault begin setup dag.order refused rows records (fault.Feed j) → i ≡ j
     steps i j h k =
         let e : feeds_in h.0 ≡ feeds_in k.0 = ap feeds_in (one_reading setup.job told records h.0 k.0 h.2 k.2) in
         let at : h.1 ≡ k.1 = one_place (feeds_in k.0) (feed_of begin setup rows) h.1 k.1 (subst (λ (l : List Feed). DifferFirst l (feed_of begin setup rows) h.1) e h.5) k.5 in
@@ -172,5 +172,5 @@ module _ (begin : Begin) (setup : SetupView) (dag : DagView) (connected : IsConn
     both f g a b (inr (inr (inr h))) (inr (inr (inr k))) = workers f g a b h k
 
     pub one_verdict : (f g : AuditFault) → (f ≡ fault.NoMemory → ⊥) → (g ≡ fault.NoMemory → ⊥)
-        → IsFaultOf begin setup dag.order refused rows records f → IsFaultOf begin setup dag.order refused rows records g → f ≡ g
+        → IsFirstFault begin setup dag.order refused rows records f → IsFirstFault begin setup dag.order refused rows records g → f ≡ g
     one_verdict f g a b h k = both f g a b (sort f a h) (sort g b k)

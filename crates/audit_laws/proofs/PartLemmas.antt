@@ -24,12 +24,12 @@ use Rattle.audit_laws.specs.declared.audit.Line.TheVariants as line
 use Rattle.audit_fault.specs.declared.fault.AuditFault.{AuditFault}
 use Rattle.audit_fault.specs.declared.fault.AuditFault.TheVariants as fault
 use Rattle.audit_laws.specs.Delivered.{feed_of}
-use Rattle.audit_laws.specs.Faults.{AreFinished, Listed}
-use Rattle.audit_laws.specs.Fits.{Fits, HasForm, kept_lines, records_of}
-use Rattle.audit_laws.specs.Lines.{IsLine, count_in, counts_in, journal_in, lines_from, lines_of, worker_lines}
+use Rattle.audit_laws.specs.Faults.{AreTrimmedFinished, Listed}
+use Rattle.audit_laws.specs.Fits.{Fits, HasForm, kept_lines, csv_records}
+use Rattle.audit_laws.specs.Lines.{IsLawfulLine, worker_count_in, counts_in, journal_in, lines_from, lines_of, worker_lines}
 use Rattle.audit_laws.specs.Part.{AreRestorable, IsFirstCounted, IsPartFaultOf, uncounted}
 use Rattle.audit_laws.specs.Trimmed.{trimmed}
-use Rattle.audit_laws.specs.Verdict.{AreInShape, IsFaultOf, by_worker}
+use Rattle.audit_laws.specs.Verdict.{AreInShape, IsFirstFault, by_worker}
 use Rattle.audit_laws.proofs.NamedLemmas.{are_told}
 use Rattle.audit_laws.proofs.OneFaultLemmas.{lane_or_all, law_or_more}
 use Rattle.audit_laws.proofs.OneVerdictLemmas.{feed_first, in_shape, one_verdict, refused_first}
@@ -50,22 +50,22 @@ none_told : (workers : List Worker) → map entries (none_counted workers) ≡ n
 none_told [] = refl
 none_told (who ∷ workers) = ap₂ (λ (x : Listed) (xs : List Listed). x ∷ xs) none_listed (none_told workers)
 
-no_state : (k w : ℕ) (js : List (List AuditEntry)) (workers : List Worker) → filter_map (count_in w) (lines_from k js (nothing workers)) ≡ []
+no_state : (k w : ℕ) (js : List (List AuditEntry)) (workers : List Worker) → filter_map (worker_count_in w) (lines_from k js (nothing workers)) ≡ []
 no_state k w [] workers = refl
 no_state k w (j ∷ js) [] = refl
 no_state k w (j ∷ js) (who ∷ workers) =
-    filter_map-append (count_in w) (worker_lines k j []) (lines_from (k + 1) js (nothing workers))
+    filter_map-append (worker_count_in w) (worker_lines k j []) (lines_from (k + 1) js (nothing workers))
     ∙ ap₂ (λ (x y : Listed). x ++ y)
-    (ap (λ (ls : List Line). filter_map (count_in w) ls) (append-nil (map (line.Step k) j)) ∙ keeps_none (count_in w) (line.Step k) j (λ e. refl))
+    (ap (λ (ls : List Line). filter_map (worker_count_in w) ls) (append-nil (map (line.Step k) j)) ∙ keeps_none (worker_count_in w) (line.Step k) j (λ e. refl))
     (no_state (k + 1) w js workers)
 
 -- lines without counts tell none
 counts_untold : (r : List Noted) (f : List Feed) (js : List (List AuditEntry)) (workers : List Worker) (w : ℕ) → counts_in (lines_of r f js (map entries (none_counted workers))) w ≡ []
 counts_untold r f js workers w =
     ap (λ (ss : List Listed). counts_in (lines_of r f js ss) w) (none_told workers)
-    ∙ (by_parts r f js (nothing workers) (count_in w)
-    ∙ ap₂ (λ (x y : Listed). x ++ y) (keeps_none (count_in w) line.Refused r (λ x. refl))
-    (ap₂ (λ (x y : Listed). x ++ y) (keeps_none (count_in w) line.Feed f (λ x. refl)) (no_state 0 w js workers)))
+    ∙ (by_parts r f js (nothing workers) (worker_count_in w)
+    ∙ ap₂ (λ (x y : Listed). x ++ y) (keeps_none (worker_count_in w) line.Refused r (λ x. refl))
+    (ap₂ (λ (x y : Listed). x ++ y) (keeps_none (worker_count_in w) line.Feed f (λ x. refl)) (no_state 0 w js workers)))
 
 -- ---- the form of lines
 
@@ -97,8 +97,8 @@ fewer_kept refused feeds js ss workers y e i =
 
 uncounted_form : (refused : List Noted) (ran : Ran) → length ran.journals ≡ length (workers_in ran.setup.job) → length ran.states ≡ length (workers_in ran.setup.job) → HasForm refused ran → HasForm refused (uncounted ran)
 uncounted_form refused ran journals states form =
-    all_of_at (IsLine ran.setup.job) (kept_lines refused (uncounted ran)) (λ y i.
-    at_of_all (IsLine ran.setup.job) y (kept_lines refused ran) form (
+    all_of_at (IsLawfulLine ran.setup.job) (kept_lines refused (uncounted ran)) (λ y i.
+    at_of_all (IsLawfulLine ran.setup.job) y (kept_lines refused ran) form (
     fewer_kept refused ran.feeds (map trimmed ran.journals) (map entries ran.states) (workers_in ran.setup.job) y
     (omega (arith, length-map ran.states entries, length-map ran.journals trimmed, journals, states))
     (subst (λ (ss : List Listed). IsIn y (lines_of refused ran.feeds (map trimmed ran.journals) ss)) (none_told (workers_in ran.setup.job)) i)))
@@ -109,7 +109,7 @@ length_uncounted ran = length-map (workers_in ran.setup.job) (λ (who : Worker).
 
 -- the lines of a part that fits a text are in shape
 pub part_shape : (begin : Begin) (setup : SetupView) (rows : List Row) (refused : List Noted) (text : List ℕ) (ran : Ran) → IsRunSince begin setup rows ran → Fits refused text (uncounted ran) → HasForm refused ran
-    → AreInShape setup.job (records_of text) (kept_lines refused (uncounted ran))
+    → AreInShape setup.job (csv_records text) (kept_lines refused (uncounted ran))
 part_shape begin setup rows refused text ran is fits form =
     shape_of setup refused text (uncounted ran) is.setup_is is.run.one_journal_each (length_uncounted ran) fits (uncounted_form refused ran is.run.one_journal_each is.run.one_state_each form)
 
@@ -123,7 +123,7 @@ module _ (begin : Begin) (setup : SetupView) (dag : DagView) (connected : IsConn
     as_long : length (none_counted (workers_in setup.job)) ≡ length (workers_in setup.job)
     as_long = length-map (workers_in setup.job) (λ (who : Worker). empty)
 
-    before : (f : AuditFault) → (f ≡ fault.NoMemory → ⊥) → ((w : ℕ) → f ≡ fault.State w → ⊥) → IsFaultOf begin setup dag.order refused rows records f → ⊥
+    before : (f : AuditFault) → (f ≡ fault.NoMemory → ⊥) → ((w : ℕ) → f ≡ fault.State w → ⊥) → IsFirstFault begin setup dag.order refused rows records f → ⊥
     before = no_fault_before begin setup dag connected lawful edges nodes rows are refused records journals states run (none_counted (workers_in setup.job)) as_long shape
 
     pub no_part_fault : (f : AuditFault) → (f ≡ fault.NoMemory → ⊥) → IsPartFaultOf begin setup dag.order refused rows records f → ⊥
@@ -164,7 +164,7 @@ module _ (begin : Begin) (setup : SetupView) (dag : DagView) (connected : IsConn
     IsPart f = IsPartFaultOf begin setup dag.order refused rows records f
 
     abbrev IsFault : AuditFault → Type 0
-    IsFault f = IsFaultOf begin setup dag.order refused rows records f
+    IsFault f = IsFirstFault begin setup dag.order refused rows records f
 
     -- but for the counts it is a fault of any audit
     as_fault : (f : AuditFault) → ((w : ℕ) → f ≡ fault.State w → ⊥) → IsPart f → IsFault f
@@ -186,7 +186,7 @@ module _ (begin : Begin) (setup : SetupView) (dag : DagView) (connected : IsConn
     state_alone w (fault.Law v) some h k =
         let e = same_lines h.0 k.0 h.1 k.1 in
         absurd (law_or_more begin setup rows (by_worker setup (journal_in k.0)) v k.4 (
-        subst (λ (ls : List Line). AreFinished begin setup rows (by_worker setup (journal_in ls))) e h.4))
+        subst (λ (ls : List Line). AreTrimmedFinished begin setup rows (by_worker setup (journal_in ls))) e h.4))
     state_alone w (fault.Lane n) some h k =
         let e = same_lines h.0 k.0 h.1 k.1 in
         let all : AreRestorable begin setup rows (by_worker setup (journal_in k.0)) = subst (λ (ls : List Line). AreRestorable begin setup rows (by_worker setup (journal_in ls))) e h.5 in

@@ -21,8 +21,8 @@ use Rattle.tuple_trace.specs.declared.tuple.Tuple.{Tuple}
 use Rattle.versions.specs.declared.request.Change.{Change}
 use Rattle.flow_model.specs.Begin.{at_first}
 use Rattle.flow_model.specs.SetupView.{SetupView, Worker}
-use Rattle.flow_model.specs.Replay.{StateView, after, after_all, with_change}
-use Rattle.flow_model.specs.Requests.{change_of}
+use Rattle.flow_model.specs.Replay.{StateView, after, after_all, after_change}
+use Rattle.flow_model.specs.Requests.{change_by}
 use Rattle.flow_model.specs.Workers.{workers_in}
 use Rattle.flow_model.proofs.ElementLemmas.{IsIn, all_of_at, at_of_all, in_filter, in_map, in_of_place}
 use Rattle.audit_laws.specs.Range.{AreInRange, BeginsInRange}
@@ -105,9 +105,9 @@ step_range job (func.Sink listed) counts t h = h
 after_range : (setup : SetupView) (who : Worker) (view : StateView) (x : Entry) → EachInRange (entries view.counts) → EachInRange (entries (after setup who view x).counts)
 after_range setup who view (entry.Met l t) h = step_range setup.job view.func view.counts t h
 after_range setup who view (entry.Marked l r) h = h
-after_range setup who view (entry.Turned r) h = go (change_of setup r who.node)
+after_range setup who view (entry.Turned r) h = go (change_by setup r who.node)
   where
-    go : (o : Option Change) → EachInRange (entries (with_change o view).counts)
+    go : (o : Option Change) → EachInRange (entries (after_change o view).counts)
     go None = h
     go (Some change) = carried_range change.carry view.counts h
 after_range setup who view (entry.Ended l) h = h

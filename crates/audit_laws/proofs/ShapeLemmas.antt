@@ -15,14 +15,14 @@ use Rattle.audit_laws.specs.declared.audit.AuditEntry.{AuditEntry}
 use Rattle.audit_laws.specs.declared.audit.Line.{Line}
 use Rattle.audit_laws.specs.declared.audit.Line.TheVariants as line
 use Rattle.audit_laws.specs.Faults.{Listed}
-use Rattle.audit_laws.specs.Lines.{IsLine, StandInOrder, count_in, counts_in, entry_in, feeds_in, group_of, journal_in, line_fields, lines_from, lines_of, refusal_in, refusals_in, step_in, worker_lines}
+use Rattle.audit_laws.specs.Lines.{IsLawfulLine, StandInOrder, worker_count_in, counts_in, entry_in, feeds_in, group_of, journal_in, line_fields, lines_from, lines_of, refusal_in, refusals_in, feed_step_in, worker_lines}
 use Rattle.audit_laws.specs.Names.{named_workers}
 use Rattle.audit_laws.specs.Verdict.{AreInShape, DifferFirst, HasBadShape, HasNoHeader}
 use Rattle.audit_laws.proofs.LineLemmas.{AreTold, same_line}
 
 -- ---- one reading
 
-same_lines_of : (job : JobView) → AreTold job → (a b : List Line) → AllByRecursion (IsLine job) a → AllByRecursion (IsLine job) b
+same_lines_of : (job : JobView) → AreTold job → (a b : List Line) → AllByRecursion (IsLawfulLine job) a → AllByRecursion (IsLawfulLine job) b
     → map (line_fields (named_workers job.nodes)) a ≡ map (line_fields (named_workers job.nodes)) b → a ≡ b
 same_lines_of job told [] [] p q e = refl
 same_lines_of job told [] (y ∷ b) p q e = absurd (cc)
@@ -32,9 +32,9 @@ same_lines_of job told (x ∷ a) (y ∷ b) p q e =
     let later : map (line_fields (named_workers job.nodes)) a ≡ map (line_fields (named_workers job.nodes)) b = cc in
     ap₂ (λ (z : Line) (zs : List Line). z ∷ zs) (same_line job told x y p.0 q.0 first) (same_lines_of job told a b p.1 q.1 later)
 
-pub same_lines : (job : JobView) → AreTold job → (a b : List Line) → All (IsLine job) a → All (IsLine job) b
+pub same_lines : (job : JobView) → AreTold job → (a b : List Line) → All (IsLawfulLine job) a → All (IsLawfulLine job) b
     → map (line_fields (named_workers job.nodes)) a ≡ map (line_fields (named_workers job.nodes)) b → a ≡ b
-same_lines job told a b p q e = same_lines_of job told a b (recursion_from_All (IsLine job) a p) (recursion_from_All (IsLine job) b q) e
+same_lines job told a b p q e = same_lines_of job told a b (recursion_from_All (IsLawfulLine job) a p) (recursion_from_All (IsLawfulLine job) b q) e
 
 pub behind : (x y : List (List ℕ)) (a b : List (List (List ℕ))) → x ∷ a ≡ y ∷ b → a ≡ b
 behind x y a b e = cc
@@ -60,10 +60,10 @@ no_bad_shape job told records lines i s h =
     let e : map (line_fields (named_workers job.nodes)) lines ≡ map (line_fields (named_workers job.nodes)) h.above ++ h.here ∷ h.later =
     behind audit_header audit_header _ _ (sym s.fields ∙ h.fields) in
     let r = split_map (line_fields (named_workers job.nodes)) lines (map (line_fields (named_workers job.nodes)) h.above) h.here h.later e in
-    let each : All (IsLine job) (r.0 ++ r.1 ∷ r.2) = subst (All (IsLine job)) r.3 s.each in
+    let each : All (IsLawfulLine job) (r.0 ++ r.1 ∷ r.2) = subst (All (IsLawfulLine job)) r.3 s.each in
     let ordered : StandInOrder (r.0 ++ r.1 ∷ r.2) = subst StandInOrder r.3 s.ordered in
-    let is : IsLine job r.1 = at_of_all (IsLine job) r.1 (r.0 ++ r.1 ∷ r.2) each (in_right r.1 r.0 (r.1 ∷ r.2) (inl refl)) in
-    let front : All (IsLine job) r.0 = all_of_at (IsLine job) r.0 (λ x j. at_of_all (IsLine job) x (r.0 ++ r.1 ∷ r.2) each (in_left x r.0 (r.1 ∷ r.2) j)) in
+    let is : IsLawfulLine job r.1 = at_of_all (IsLawfulLine job) r.1 (r.0 ++ r.1 ∷ r.2) each (in_right r.1 r.0 (r.1 ∷ r.2) (inl refl)) in
+    let front : All (IsLawfulLine job) r.0 = all_of_at (IsLawfulLine job) r.0 (λ x j. at_of_all (IsLawfulLine job) x (r.0 ++ r.1 ∷ r.2) each (in_left x r.0 (r.1 ∷ r.2) j)) in
     let above : r.0 ≡ h.above = same_lines job told r.0 h.above front h.each r.4 in
     h.misshapen r.1 is (sym r.5) (
     subst (λ (ls : List Line). All (λ earlier. group_of earlier ≤ group_of r.1) ls) above (
@@ -138,9 +138,9 @@ module _ (r : List Noted) (f : List Feed) (js : List (List AuditEntry)) (ss : Li
 
   pub feeds_told : feeds_in (lines_of r f js ss) ≡ f
   feeds_told =
-      by_parts step_in
-      ∙ ap₂ (λ (x y : List Feed). x ++ y) (keeps_none step_in line.Refused r (λ x. refl))
-      (ap₂ (λ (x y : List Feed). x ++ y) (keeps_all step_in line.Feed f (λ x. refl)) (pick_past step_in 0 js ss (λ w le e. refl) (λ w le c. refl)) ∙ append-nil f)
+      by_parts feed_step_in
+      ∙ ap₂ (λ (x y : List Feed). x ++ y) (keeps_none feed_step_in line.Refused r (λ x. refl))
+      (ap₂ (λ (x y : List Feed). x ++ y) (keeps_all feed_step_in line.Feed f (λ x. refl)) (pick_past feed_step_in 0 js ss (λ w le e. refl) (λ w le c. refl)) ∙ append-nil f)
 
   pub journal_told : (w : ℕ) (j : List AuditEntry) (s : Listed) → slice_get js w ≡ Some j → slice_get ss w ≡ Some s → journal_in (lines_of r f js ss) w ≡ j
   journal_told w j s p q =
@@ -158,13 +158,13 @@ module _ (r : List Noted) (f : List Feed) (js : List (List AuditEntry)) (ss : Li
 
   pub counts_told : (w : ℕ) (j : List AuditEntry) (s : Listed) → slice_get js w ≡ Some j → slice_get ss w ≡ Some s → counts_in (lines_of r f js ss) w ≡ s
   counts_told w j s p q =
-      by_parts (count_in w)
-      ∙ (ap₂ (λ (x y : Listed). x ++ y) (keeps_none (count_in w) line.Refused r (λ x. refl))
-      (ap₂ (λ (x y : Listed). x ++ y) (keeps_none (count_in w) line.Feed f (λ x. refl))
-      (pick_at (count_in w) 0 w js ss j s p q (λ v ne e. refl) (λ v ne c. rw (ne_eqb v w (λ same. ne (omega arith))) refl)))
-      ∙ (ap (λ v. filter_map (count_in w) (worker_lines v j s)) zero_first
-      ∙ (filter_map-append (count_in w) (map (line.Step w) j) (map (λ counted. line.State w counted.0 counted.1) s)
-      ∙ ap₂ (λ (x y : Listed). x ++ y) (keeps_none (count_in w) (line.Step w) j (λ x. refl)) (keeps_all (count_in w) (λ counted. line.State w counted.0 counted.1) s (λ x. rw (eq-eqb w w refl) refl)))))
+      by_parts (worker_count_in w)
+      ∙ (ap₂ (λ (x y : Listed). x ++ y) (keeps_none (worker_count_in w) line.Refused r (λ x. refl))
+      (ap₂ (λ (x y : Listed). x ++ y) (keeps_none (worker_count_in w) line.Feed f (λ x. refl))
+      (pick_at (worker_count_in w) 0 w js ss j s p q (λ v ne e. refl) (λ v ne c. rw (ne_eqb v w (λ same. ne (omega arith))) refl)))
+      ∙ (ap (λ v. filter_map (worker_count_in w) (worker_lines v j s)) zero_first
+      ∙ (filter_map-append (worker_count_in w) (map (line.Step w) j) (map (λ counted. line.State w counted.0 counted.1) s)
+      ∙ ap₂ (λ (x y : Listed). x ++ y) (keeps_none (worker_count_in w) (line.Step w) j (λ x. refl)) (keeps_all (worker_count_in w) (λ counted. line.State w counted.0 counted.1) s (λ x. rw (eq-eqb w w refl) refl)))))
     where
       zero_first : 0 + w ≡ w
       zero_first = omega arith

@@ -23,11 +23,11 @@ use Rattle.audit_fault.specs.declared.fault.AuditFault.{AuditFault}
 use Rattle.audit_fault.specs.declared.fault.AuditFault.TheVariants as fault
 use Rattle.audit_laws.specs.Delivered.{feed_of}
 use Rattle.audit_laws.specs.Faults.{IsFaultOfWorkers, Listed}
-use Rattle.audit_laws.specs.Fits.{Fits, HasForm, kept_lines, records_of}
-use Rattle.audit_laws.specs.Lines.{IsLine, line_fields, counts_in, feeds_in, journal_in, lines_of, refusals_in}
+use Rattle.audit_laws.specs.Fits.{Fits, HasForm, kept_lines, csv_records}
+use Rattle.audit_laws.specs.Lines.{IsLawfulLine, line_fields, counts_in, feeds_in, journal_in, lines_of, refusals_in}
 use Rattle.audit_laws.specs.Trimmed.{trimmed}
 use Rattle.audit_laws.specs.Names.{named_workers}
-use Rattle.audit_laws.specs.Verdict.{AreInShape, IsFaultOf, by_worker}
+use Rattle.audit_laws.specs.Verdict.{AreInShape, IsFirstFault, by_worker}
 use Rattle.audit_laws.proofs.FaultLemmas.{no_fault}
 use Rattle.audit_laws.proofs.GroupLemmas.{lines_ordered}
 use Rattle.audit_laws.proofs.TextLemmas.{audit_lines}
@@ -86,7 +86,7 @@ module _ (begin : Begin) (setup : SetupView) (dag : DagView) (connected : IsConn
             subst (λ (x : List (List AuditEntry)). IsFaultOfWorkers begin setup dag.order rows x (map entries states) f) j h)
 
         -- whatever counts are told, no fault of another kind stands
-        pub no_fault_before : (f : AuditFault) → (f ≡ fault.NoMemory → ⊥) → ((w : ℕ) → f ≡ fault.State w → ⊥) → IsFaultOf begin setup dag.order refused rows records f → ⊥
+        pub no_fault_before : (f : AuditFault) → (f ≡ fault.NoMemory → ⊥) → ((w : ℕ) → f ≡ fault.State w → ⊥) → IsFirstFault begin setup dag.order refused rows records f → ⊥
         no_fault_before (fault.Shape i) some early (inl h) = no_missing_header setup.job records lines shape h.1
         no_fault_before (fault.Shape i) some early (inr h) = no_bad_shape setup.job (are_told setup.job lawful) records lines i shape h
         no_fault_before (fault.Refused i) some early h =
@@ -101,7 +101,7 @@ module _ (begin : Begin) (setup : SetupView) (dag : DagView) (connected : IsConn
         no_fault_before fault.NoMemory some early h = some refl
 
     module _ (shape : AreInShape setup.job records (lines_of refused (feed_of begin setup rows) (map trimmed journals) (map entries states))) where
-      no_state : (w : ℕ) → IsFaultOf begin setup dag.order refused rows records (fault.State w) → ⊥
+      no_state : (w : ℕ) → IsFirstFault begin setup dag.order refused rows records (fault.State w) → ⊥
       no_state w h =
           let c : by_worker setup (counts_in h.0) ≡ map entries states =
           ap (λ (ls : List Line). by_worker setup (counts_in ls)) (read states run.one_state_each shape h.0 h.1)
@@ -109,10 +109,10 @@ module _ (begin : Begin) (setup : SetupView) (dag : DagView) (connected : IsConn
           of_workers states run.one_state_each shape (fault.State w) (λ e. absurd (cc)) h.0 h.1 (
           subst (λ (x : List Listed). IsFaultOfWorkers begin setup dag.order rows (by_worker setup (journal_in h.0)) x (fault.State w)) c h.4)
 
-      pub no_text_fault : (f : AuditFault) → (f ≡ fault.NoMemory → ⊥) → IsFaultOf begin setup dag.order refused rows records f → ⊥
+      pub no_text_fault : (f : AuditFault) → (f ≡ fault.NoMemory → ⊥) → IsFirstFault begin setup dag.order refused rows records f → ⊥
       no_text_fault f some h =
           no_fault_before states run.one_state_each shape f some (λ w e.
-          no_state w (subst (IsFaultOf begin setup dag.order refused rows records) e h)) h
+          no_state w (subst (IsFirstFault begin setup dag.order refused rows records) e h)) h
 
 -- runs whose lines are those of one text are the same once trimmed
 pub same_trims : (setup : SetupView) → IsLawful setup.job → (refused : List Noted) (records : List (List (List ℕ))) (feeds others : List Feed) (A B : List (List Entry)) (S T : List Counts)
@@ -139,13 +139,13 @@ fits_lines begin setup rows refused ran is = told_lines setup refused ran is.set
 
 -- the lines of a record that fits a text are in shape
 pub shape_of : (setup : SetupView) (refused : List Noted) (text : List ℕ) (ran : Ran) → ran.setup ≡ setup → length ran.journals ≡ length (workers_in ran.setup.job) → length ran.states ≡ length (workers_in ran.setup.job)
-    → Fits refused text ran → HasForm refused ran → AreInShape setup.job (records_of text) (kept_lines refused ran)
+    → Fits refused text ran → HasForm refused ran → AreInShape setup.job (csv_records text) (kept_lines refused ran)
 shape_of setup refused text ran same journals states fits form = record {
   fields = fits ∙ told_lines setup refused ran same journals states;
-  each = subst (λ (s : SetupView). All (IsLine s.job) (kept_lines refused ran)) same form;
+  each = subst (λ (s : SetupView). All (IsLawfulLine s.job) (kept_lines refused ran)) same form;
   ordered = lines_ordered refused ran.feeds (map trimmed ran.journals) (map entries ran.states);
 }
 
 pub in_shape : (begin : Begin) (setup : SetupView) (rows : List Row) (refused : List Noted) (text : List ℕ) (ran : Ran) → IsRunSince begin setup rows ran → Fits refused text ran → HasForm refused ran
-    → AreInShape setup.job (records_of text) (kept_lines refused ran)
+    → AreInShape setup.job (csv_records text) (kept_lines refused ran)
 in_shape begin setup rows refused text ran is fits form = shape_of setup refused text ran is.setup_is is.run.one_journal_each is.run.one_state_each fits form

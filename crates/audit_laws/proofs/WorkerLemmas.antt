@@ -17,7 +17,7 @@ use Rattle.flow_model.specs.Lanes.{lanes, lanes_in, marked_lanes}
 use Rattle.flow_model.specs.Law.{IsExecution, Progress, after_entry, initial}
 use Rattle.flow_model.specs.SetupView.{SetupView, Worker}
 use Rattle.flow_model.specs.declared.topology.Lane.{Lane}
-use Rattle.flow_model.specs.Replay.{StateView, after, items_on, marker, marker_by, puts, sent}
+use Rattle.flow_model.specs.Replay.{StateView, after, items_on, marker, marker_by, puts, items_sent}
 use Rattle.flow_model.specs.Run.{put_by, ran_as, sent_by}
 use Rattle.flow_model.specs.Duties.{duties}
 use Rattle.flow_model.specs.Workers.{workers_in}
@@ -32,7 +32,7 @@ use Rattle.audit_laws.specs.Delivered.{delivered, feed_of}
 use Rattle.audit_laws.specs.Checked.{IsFinishedDraft, ShowsDelivered}
 use Rattle.audit_laws.specs.Drafted.{drafted}
 use Rattle.audit_laws.specs.Faults.{AreItems}
-use Rattle.audit_laws.specs.Restoring.{LanesAgree, delivered_by, delivered_on, items_of, restored}
+use Rattle.audit_laws.specs.Restoring.{LanesAgree, delivered_by, delivered_on, items_taken, restored}
 use Rattle.audit_laws.specs.Trimmed.{trimmed}
 use Rattle.audit_laws.proofs.RestoringLemmas.{ComeBy, IsRightMark, restored_sought}
 
@@ -71,10 +71,10 @@ right_put setup who lane view (entry.Turned q) (item.Mark r c) i =
     mark_by_plan setup q r c m.0 m.1 m.2
 right_put setup who lane view (entry.Ended l) (item.Mark r c) i = let m = comes_of setup who lane view (entry.Ended l) (item.Mark r c) i in absurd (cc)
 
-right_sent : (setup : SetupView) (who : Worker) (lane : Lane) (view : StateView) (xs : List Entry) (y : Item) → IsIn y (sent setup who view lane xs) → IsRightMark setup y
+right_sent : (setup : SetupView) (who : Worker) (lane : Lane) (view : StateView) (xs : List Entry) (y : Item) → IsIn y (items_sent setup who view lane xs) → IsRightMark setup y
 right_sent setup who lane view [] y i = absurd i
 right_sent setup who lane view (x ∷ xs) y i =
-    elim (in_cases y (items_on lane (puts setup who view x)) (sent setup who (after setup who view x) lane xs) i) [
+    elim (in_cases y (items_on lane (puts setup who view x)) (items_sent setup who (after setup who view x) lane xs) i) [
       | inl a ↦ right_put setup who lane view x y a
       | inr b ↦ right_sent setup who lane (after setup who view x) xs y b
     ]
@@ -103,7 +103,7 @@ right_delivered begin setup rows journals lane items y e i = by_sender lane.send
     by_parts (Some q) (Some counts) None e = absurd (cc)
     by_parts (Some q) (Some counts) (Some journal) e =
         right_sent setup q lane (view_at setup begin.turned q counts) journal y
-        (subst (λ (l : List Item). IsIn y l) (sym (same_Some (sent setup q (view_at setup begin.turned q counts) lane journal) items e)) i)
+        (subst (λ (l : List Item). IsIn y l) (sym (same_Some (items_sent setup q (view_at setup begin.turned q counts) lane journal) items e)) i)
 
     by_sender : (o : Option ℕ) → put_by begin rows (ran_as setup (feed_of begin setup rows) journals []) lane o ≡ Some items → IsRightMark setup y
     by_sender None e =
@@ -129,7 +129,7 @@ worker_restored begin setup rows journals w who journal p law agree =
     )
   where
     at : (n : ℕ) (lane : Lane) (items : List Item) → slice_get (lanes setup.job) n ≡ Some lane → delivered begin setup rows journals lane ≡ Some items → delivered_on begin setup rows journals n ≡ items
-    at n lane items g e = ap (delivered_by begin setup rows journals) g ∙ ap items_of e
+    at n lane items g e = ap (delivered_by begin setup rows journals) g ∙ ap items_taken e
 
     on : (n : ℕ) → IsIn n (lanes_in setup.job w)
         → (lane : Lane) × (items : List Item) × (delivered begin setup rows journals lane ≡ Some items) × AreItems n (delivered_on begin setup rows journals n) journal × (delivered_on begin setup rows journals n ≡ items)

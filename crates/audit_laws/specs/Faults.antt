@@ -38,8 +38,8 @@ pub record HasBadLaw (begin : Begin) (setup : SetupView) (rows : List Row)
       slice_get audit v ≡ Some j → IsFinishedDraft begin setup rows p j
 
 -- The trimmed journal of each worker is finished.
-abbrev pub AreFinished : Begin → SetupView → List Row → List (List AuditEntry) → Type 0
-AreFinished begin setup rows audit =
+abbrev pub AreTrimmedFinished : Begin → SetupView → List Row → List (List AuditEntry) → Type 0
+AreTrimmedFinished begin setup rows audit =
     (w : ℕ) (who : Worker) (journal : List AuditEntry)
     → slice_get (workers_in setup.job) w ≡ Some who →
     slice_get audit w ≡ Some journal → IsFinishedDraft begin setup rows who journal
@@ -150,7 +150,7 @@ IsFaultOfWorkers begin setup order rows audit states (fault.Feed i) = ⊥
 IsFaultOfWorkers begin setup order rows audit states (fault.Law w) =
     HasBadLaw begin setup rows audit w
 IsFaultOfWorkers begin setup order rows audit states (fault.Lane n) =
-    AreFinished begin setup rows audit × HasBadLane begin setup order rows audit n
+    AreTrimmedFinished begin setup rows audit × HasBadLane begin setup order rows audit n
 IsFaultOfWorkers begin setup order rows audit states (fault.State w) =
-    AreFinished begin setup rows audit × HasBadState begin setup rows audit states w
+    AreTrimmedFinished begin setup rows audit × HasBadState begin setup rows audit states w
 IsFaultOfWorkers begin setup order rows audit states fault.NoMemory = ⊤

@@ -67,11 +67,12 @@ IsStep feed.Stopped = ⊤
 
 -- The worker and the lane of a line are those of the job. Its numbers are in the ranges of their
 -- types.
-abbrev pub IsLine : JobView → Line → Type 0
-IsLine job (line.Refused noted) = IsNoted noted
-IsLine job (line.Feed step) = IsStep step
-IsLine job (line.Step w entry) = (w < length (named_workers job.nodes)) × IsEntryAt job w entry
-IsLine job (line.State w key count) =
+abbrev pub IsLawfulLine : JobView → Line → Type 0
+IsLawfulLine job (line.Refused noted) = IsNoted noted
+IsLawfulLine job (line.Feed step) = IsStep step
+IsLawfulLine job (line.Step w entry) =
+    (w < length (named_workers job.nodes)) × IsEntryAt job w entry
+IsLawfulLine job (line.State w key count) =
     (w < length (named_workers job.nodes)) × (mag count < 2 ^ 63)
 
 -- The group that a line stands in: refused requests, the feeder's steps, and of each worker its
@@ -96,11 +97,11 @@ refusal_in (line.Step w entry) = None
 refusal_in (line.State w key count) = None
 
 -- The feeder's step of a line, if the line is of one.
-abbrev pub step_in : Line → Option Feed
-step_in (line.Refused noted) = None
-step_in (line.Feed step) = Some step
-step_in (line.Step w entry) = None
-step_in (line.State w key count) = None
+abbrev pub feed_step_in : Line → Option Feed
+feed_step_in (line.Refused noted) = None
+feed_step_in (line.Feed step) = Some step
+feed_step_in (line.Step w entry) = None
+feed_step_in (line.State w key count) = None
 
 -- The entry of a line, if the line is of one of this worker.
 abbrev pub entry_in : ℕ → Line → Option AuditEntry
@@ -110,11 +111,11 @@ entry_in v (line.Step w entry) = if w == v then Some entry else None
 entry_in v (line.State w key count) = None
 
 -- The count of a line, with its key, if the line is of one of this worker.
-abbrev pub count_in : ℕ → Line → Option (List ℕ × ℤ)
-count_in v (line.Refused noted) = None
-count_in v (line.Feed step) = None
-count_in v (line.Step w entry) = None
-count_in v (line.State w key count) = if w == v then Some (key, count) else None
+abbrev pub worker_count_in : ℕ → Line → Option (List ℕ × ℤ)
+worker_count_in v (line.Refused noted) = None
+worker_count_in v (line.Feed step) = None
+worker_count_in v (line.Step w entry) = None
+worker_count_in v (line.State w key count) = if w == v then Some (key, count) else None
 
 -- The refused requests of these lines, in order.
 abbrev pub refusals_in : List Line → List Noted
@@ -122,7 +123,7 @@ refusals_in lines = filter_map refusal_in lines
 
 -- The feeder's steps of these lines, in order.
 abbrev pub feeds_in : List Line → List Feed
-feeds_in lines = filter_map step_in lines
+feeds_in lines = filter_map feed_step_in lines
 
 -- The entries of a worker in these lines, in order.
 abbrev pub journal_in : List Line → ℕ → List AuditEntry
@@ -130,7 +131,7 @@ journal_in lines w = filter_map (entry_in w) lines
 
 -- The counts of a worker in these lines, in order.
 abbrev pub counts_in : List Line → ℕ → Listed
-counts_in lines w = filter_map (count_in w) lines
+counts_in lines w = filter_map (worker_count_in w) lines
 
 -- ---- the records of what was told
 

@@ -12,9 +12,9 @@ use Rattle.audit_laws.specs.declared.audit.Line.{Line}
 use Rattle.audit_fault.specs.declared.fault.AuditFault.{AuditFault}
 use Rattle.audit_fault.specs.declared.fault.AuditFault.TheVariants as fault
 use Rattle.audit_laws.specs.Delivered.{feed_of}
-use Rattle.audit_laws.specs.Faults.{AreFinished, IsRestored}
+use Rattle.audit_laws.specs.Faults.{AreTrimmedFinished, IsRestored}
 use Rattle.audit_laws.specs.Lines.{counts_in, feeds_in, journal_in, refusals_in}
-use Rattle.audit_laws.specs.Verdict.{AreInShape, IsFaultOf, by_worker}
+use Rattle.audit_laws.specs.Verdict.{AreInShape, IsFirstFault, by_worker}
 
 -- The record without counts.
 abbrev pub uncounted : Ran → Ran
@@ -40,8 +40,8 @@ abbrev pub IsPartFaultOf :
 IsPartFaultOf begin setup order refused rows records (fault.State w) =
     (lines : List Line) × AreInShape setup.job records lines × (refusals_in lines ≡ refused)
     × (feeds_in lines ≡ feed_of begin setup rows)
-    × AreFinished begin setup rows (by_worker setup (journal_in lines))
+    × AreTrimmedFinished begin setup rows (by_worker setup (journal_in lines))
     × AreRestorable begin setup rows (by_worker setup (journal_in lines))
     × IsFirstCounted lines w
 IsPartFaultOf begin setup order refused rows records other =
-    IsFaultOf begin setup order refused rows records other
+    IsFirstFault begin setup order refused rows records other

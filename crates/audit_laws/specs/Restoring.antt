@@ -45,15 +45,15 @@ restored left (kept.Turned request ∷ more) = entry.Turned request ∷ restored
 restored left (kept.Ended lane ∷ more) =
     took_next lane (left lane) ++ restored (taken_from lane left) more
 
-abbrev pub items_of : Option (List Item) → List Item
-items_of None = []
-items_of (Some items) = items
+abbrev pub items_taken : Option (List Item) → List Item
+items_taken None = []
+items_taken (Some items) = items
 
 abbrev pub delivered_by :
     Begin → SetupView → List Row → List (List Entry) → Option Lane → List Item
 delivered_by begin setup rows journals None = []
 delivered_by begin setup rows journals (Some lane) =
-    items_of (delivered begin setup rows journals lane)
+    items_taken (delivered begin setup rows journals lane)
 
 -- What each lane brings if the workers have these journals.
 abbrev pub delivered_on : Begin → SetupView → List Row → List (List Entry) → ℕ → List Item

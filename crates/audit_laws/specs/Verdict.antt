@@ -14,7 +14,7 @@ use Rattle.audit_fault.specs.declared.fault.AuditFault.{AuditFault}
 use Rattle.audit_fault.specs.declared.fault.AuditFault.TheVariants as fault
 use Rattle.audit_laws.specs.Delivered.{feed_of}
 use Rattle.audit_laws.specs.Faults.{IsFaultOfWorkers}
-use Rattle.audit_laws.specs.Lines.{IsLine, StandInOrder, counts_in, feeds_in, group_of}
+use Rattle.audit_laws.specs.Lines.{IsLawfulLine, StandInOrder, counts_in, feeds_in, group_of}
 use Rattle.audit_laws.specs.Lines.{journal_in, line_fields, refusals_in}
 use Rattle.audit_laws.specs.Names.{named_workers}
 
@@ -26,7 +26,7 @@ fields_of job lines = map (line_fields (named_workers job.nodes)) lines
 pub record AreInShape (job : JobView) (records : List (List (List ℕ)))
     (lines : List Line) : Type 0 where
   pub fields : records ≡ audit_header ∷ fields_of job lines
-  pub each : All (IsLine job) lines
+  pub each : All (IsLawfulLine job) lines
   pub ordered : StandInOrder lines
 
 -- The first record isn't the header, or there is no record.
@@ -37,7 +37,7 @@ HasNoHeader records = (later : List (List (List ℕ))) → records ≡ audit_hea
 -- come before that of a record above.
 abbrev pub IsMisshapen : JobView → List Line → List (List ℕ) → Type 0
 IsMisshapen job above fields =
-    (line : Line) → IsLine job line → fields ≡ line_fields (named_workers job.nodes) line →
+    (line : Line) → IsLawfulLine job line → fields ≡ line_fields (named_workers job.nodes) line →
     All (λ earlier. group_of earlier ≤ group_of line) above → ⊥
 
 -- The record at this place is the first that breaks a rule.
@@ -47,7 +47,7 @@ pub record HasBadShape (job : JobView) (records : List (List (List ℕ))) (i : �
   pub later : List (List (List ℕ))
   pub fields : records ≡ audit_header ∷ (fields_of job above ++ here ∷ later)
   pub place : i ≡ 1 + length above
-  pub each : All (IsLine job) above
+  pub each : All (IsLawfulLine job) above
   pub ordered : StandInOrder above
   pub misshapen : IsMisshapen job above here
 
@@ -61,20 +61,20 @@ by_worker setup f = map f (numbers_from 0 (length (workers_in setup.job)))
 
 -- The fault is the first that these records have, in the order of the codes. Out of memory is
 -- always allowed.
-abbrev pub IsFaultOf :
+abbrev pub IsFirstFault :
     Begin → SetupView → List ℕ → List Noted → List Row → List (List (List ℕ)) → AuditFault
     → Type 0
-IsFaultOf begin setup order refused rows records (fault.Shape i) =
+IsFirstFault begin setup order refused rows records (fault.Shape i) =
     ((i ≡ 0) × HasNoHeader records) ⊎ HasBadShape setup.job records i
-IsFaultOf begin setup order refused rows records (fault.Refused i) =
+IsFirstFault begin setup order refused rows records (fault.Refused i) =
     (lines : List Line) × (k : ℕ) × AreInShape setup.job records lines × (i ≡ 1 + k)
     × DifferFirst (refusals_in lines) refused k
-IsFaultOf begin setup order refused rows records (fault.Feed i) =
+IsFirstFault begin setup order refused rows records (fault.Feed i) =
     (lines : List Line) × (k : ℕ) × AreInShape setup.job records lines
     × (refusals_in lines ≡ refused) × (i ≡ 1 + length refused + k)
     × DifferFirst (feeds_in lines) (feed_of begin setup rows) k
-IsFaultOf begin setup order refused rows records fault.NoMemory = ⊤
-IsFaultOf begin setup order refused rows records other =
+IsFirstFault begin setup order refused rows records fault.NoMemory = ⊤
+IsFirstFault begin setup order refused rows records other =
     (lines : List Line) × AreInShape setup.job records lines × (refusals_in lines ≡ refused)
     × (feeds_in lines ≡ feed_of begin setup rows)
     × IsFaultOfWorkers begin setup order rows (by_worker setup (journal_in lines))

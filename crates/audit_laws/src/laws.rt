@@ -18,12 +18,12 @@ ghost use Rattle.audit_fault.specs.declared.fault.AuditFault.TheVariants as TheF
 ghost use Rattle.audit_laws.specs.Delivered.{feed_of};
 ghost use Rattle.audit_laws.specs.Checked.{IsChecked, IsFinishedDraft, ShowsDelivered};
 ghost use Rattle.audit_laws.specs.Faults.{IsFaultOfWorkers, Listed};
-ghost use Rattle.audit_laws.specs.Fits.{Fits, HasForm, kept_lines, records_of};
+ghost use Rattle.audit_laws.specs.Fits.{Fits, HasForm, kept_lines, csv_records};
 ghost use Rattle.audit_fault.specs.Noting.{IsNoted};
 ghost use Rattle.audit_laws.specs.Range.{BeginsInRange};
 ghost use Rattle.audit_laws.specs.Restoring.{LanesAgree, restored_by};
 ghost use Rattle.audit_laws.specs.Trimmed.{trimmed};
-ghost use Rattle.audit_laws.specs.Verdict.{IsFaultOf, fields_of};
+ghost use Rattle.audit_laws.specs.Verdict.{IsFirstFault, fields_of};
 
 use flow_model::Setup;
 use tuple_trace::Rows;
@@ -90,7 +90,7 @@ pub fn audits_have_one_fault(setup: &Setup)
 pub fn runs_fit_their_lines(setup: &Setup)
     ensures { (begin : Begin) (rows : List RowIs) (refused : List NotedIs) (text : List ℕ)
         (ran : Ran) → IsRunSince begin (setup_view setup.now) rows ran →
-        records_of text ≡ audit_header
+        csv_records text ≡ audit_header
         ∷ fields_of (setup_view setup.now).job (kept_lines refused ran)
         ↔ Fits refused text ran }
 {}
@@ -119,8 +119,8 @@ pub fn texts_of_runs_have_no_fault(setup: &Setup, rows: &Rows)
     ensures { (begin : Begin) (refused : List NotedIs) (text : List ℕ) (ran : Ran)
         (fault : FaultIs) → BeginsInRange begin → All IsNoted refused →
         IsRunSince begin (setup_view setup.now) rows.now ran → Fits refused text ran →
-        fault ≢ TheFault.NoMemory → ¬ IsFaultOf begin (setup_view setup.now)
-        setup.now.job.dag.order refused rows.now (records_of text) fault }
+        fault ≢ TheFault.NoMemory → ¬ IsFirstFault begin (setup_view setup.now)
+        setup.now.job.dag.order refused rows.now (csv_records text) fault }
 {
     let _numbered = rows.as_slice();
     lines_of_runs_have_form(setup, rows);
@@ -130,10 +130,10 @@ pub fn texts_of_runs_have_no_fault(setup: &Setup, rows: &Rows)
 pub fn texts_have_one_fault(setup: &Setup)
     ensures { (begin : Begin) (rows : List RowIs) (refused : List NotedIs) (text : List ℕ)
         (f g : FaultIs) → f ≢ TheFault.NoMemory → g ≢ TheFault.NoMemory →
-        IsFaultOf begin (setup_view setup.now) setup.now.job.dag.order refused rows
-        (records_of text) f →
-        IsFaultOf begin (setup_view setup.now) setup.now.job.dag.order refused rows
-        (records_of text) g → f ≡ g }
+        IsFirstFault begin (setup_view setup.now) setup.now.job.dag.order refused rows
+        (csv_records text) f →
+        IsFirstFault begin (setup_view setup.now) setup.now.job.dag.order refused rows
+        (csv_records text) g → f ≡ g }
 {}
 
 /// A text determines the run: two runs from one beginning that fit one text are equal.

@@ -10,7 +10,7 @@ ghost use Rattle.flow_model.specs.Setup.{setup_view};
 ghost use Rattle.audit_fault.specs.declared.fault.AuditFault.{AuditFault as FaultIs};
 ghost use Rattle.audit_fault.specs.declared.fault.AuditFault.TheVariants as TheFault;
 ghost use Rattle.audit_fault.specs.Noting.{IsNoted};
-ghost use Rattle.audit_laws.specs.Fits.{Fits, kept_lines, records_of};
+ghost use Rattle.audit_laws.specs.Fits.{Fits, kept_lines, csv_records};
 ghost use Rattle.audit_laws.specs.Part.{IsPartFaultOf, uncounted};
 ghost use Rattle.audit_laws.specs.Range.{BeginsInRange};
 ghost use Rattle.audit_laws.specs.Verdict.{fields_of};
@@ -24,7 +24,7 @@ use tuple_trace::Rows;
 pub fn parts_fit_their_lines(setup: &Setup)
     ensures { (begin : Begin) (rows : List RowIs) (refused : List NotedIs) (text : List ℕ)
         (ran : Ran) → IsRunSince begin (setup_view setup.now) rows ran →
-        records_of text ≡ audit_header
+        csv_records text ≡ audit_header
         ∷ fields_of (setup_view setup.now).job (kept_lines refused (uncounted ran))
         ↔ Fits refused text (uncounted ran) }
 {}
@@ -36,7 +36,7 @@ pub fn texts_of_parts_have_no_fault(setup: &Setup, rows: &Rows)
         IsRunSince begin (setup_view setup.now) rows.now ran →
         Fits refused text (uncounted ran) → fault ≢ TheFault.NoMemory →
         ¬ IsPartFaultOf begin (setup_view setup.now) setup.now.job.dag.order refused rows.now
-        (records_of text) fault }
+        (csv_records text) fault }
 {
     let _numbered = rows.as_slice();
     lines_of_runs_have_form(setup, rows);
@@ -48,9 +48,9 @@ pub fn parts_have_one_fault(setup: &Setup)
     ensures { (begin : Begin) (rows : List RowIs) (refused : List NotedIs) (text : List ℕ)
         (f g : FaultIs) → f ≢ TheFault.NoMemory → g ≢ TheFault.NoMemory →
         IsPartFaultOf begin (setup_view setup.now) setup.now.job.dag.order refused rows
-        (records_of text) f →
+        (csv_records text) f →
         IsPartFaultOf begin (setup_view setup.now) setup.now.job.dag.order refused rows
-        (records_of text) g → f ≡ g }
+        (csv_records text) g → f ≡ g }
 {}
 
 /// The audit of a part determines the run. Two runs from one beginning that fit one text without

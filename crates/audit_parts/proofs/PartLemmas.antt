@@ -16,7 +16,7 @@ use Rattle.sink_journal.specs.declared.journal.Entry.TheVariants as entry
 use Rattle.sink_journal.specs.declared.journal.Feed.{Feed}
 use Rattle.sink_journal.specs.declared.journal.Feed.TheVariants as feed
 use Rattle.audit_parts.specs.inner.Fields.{HasField}
-use Rattle.audit_parts.specs.Cut.{IsPartRecords, cut_parts, is_stop, leads, may_end}
+use Rattle.audit_parts.specs.Cut.{IsPartRecords, cut_parts, is_stop_record, leads, may_end}
 use Rattle.audit_parts.proofs.CutLemmas.{Fields, border_cuts, none_joins, onto}
 
 -- ---- which records stand where in a part
@@ -34,7 +34,7 @@ pub record IsForm (part : List Fields) : Type 0 where
   pub stop : Fields
   pub later : List Fields
   pub fronts : All IsLead front
-  pub stops : is_stop stop ≡ true
+  pub stops : is_stop_record stop ≡ true
   pub leading : leads stop ≡ true
   pub wide : 0 < length stop
   pub laters : All IsLater later
@@ -121,7 +121,7 @@ BeginsPart [] = Unit {0}
 BeginsPart (x ∷ left) = leads x ≡ true
 
 later_may_end : (x : Fields) → leads x ≡ false → may_end x ≡ true
-later_may_end x later = or_right (is_stop x) (not (leads x)) (not_from_false (leads x) later)
+later_may_end x later = or_right (is_stop_record x) (not (leads x)) (not_from_false (leads x) later)
 
 later_cut : (x : Fields) (later rest : List Fields) → may_end x ≡ true → All IsLater later → BeginsPart rest → cut_parts (x ∷ (later ++ rest)) ≡ (x ∷ later) ∷ cut_parts rest
 later_cut x [] [] ends all begins = refl
@@ -145,7 +145,7 @@ form_cut part rest f begins =
     ap (λ (l : List Fields). cut_parts (l ++ rest)) f.is
     ∙ ap cut_parts (append_assoc f.front (f.stop ∷ f.later) rest)
     ∙ front_cut f.front (f.stop ∷ (f.later ++ rest)) (f.stop ∷ f.later) (cut_parts rest) f.fronts
-    (later_cut f.stop f.later rest (or_left (is_stop f.stop) (not (leads f.stop)) f.stops) f.laters begins)
+    (later_cut f.stop f.later rest (or_left (is_stop_record f.stop) (not (leads f.stop)) f.stops) f.laters begins)
     ∙ ap (λ (l : List Fields). l ∷ cut_parts rest) (sym f.is)
 
 front_begins : (front : List Fields) (stop : Fields) (left : List Fields) → All IsLead front → leads stop ≡ true → BeginsPart (front ++ stop ∷ left)

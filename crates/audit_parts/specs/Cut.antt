@@ -1,5 +1,6 @@
 -- The parts of the audit of a stream.
-use Rattle.std.specs.Prelude.{◌≡◌, ◌≢◌, ◌&&◌, ◌||◌, ◌++◌, ℕ, Bool, false, true, not, All, List, [], ◌∷◌, Option, None, Some, codes, nat_eq, if◌then◌else◌}
+use Rattle.std.specs.Prelude.{◌≡◌, ◌≢◌, ◌&&◌, ◌||◌, ◌++◌, ℕ, Bool, false, true, not, All, List, []}
+use Rattle.std.specs.Prelude.{◌∷◌, Option, None, Some, codes, nat_eq, if◌then◌else◌}
 use Rattle.std.specs.Cmp.Lexicographic.{pointwise}
 use Rattle.jobs.specs.JobView.{JobView}
 use Rattle.keyed_state.specs.Counts.{Counts}
@@ -11,28 +12,30 @@ use Rattle.sink_journal.specs.declared.journal.Feed.{Feed}
 use Rattle.sink_journal.specs.declared.journal.Feed.TheVariants as feed
 
 -- the first field of a record says that a request was refused
-abbrev pub is_refused : List (List ℕ) → Bool
-is_refused fields = begins_with (codes "refused") fields
+abbrev pub is_refused_record : List (List ℕ) → Bool
+is_refused_record fields = begins_with (codes "refused") fields
 
 -- the first field says that the feeder fed a row
-abbrev pub is_fed : List (List ℕ) → Bool
-is_fed fields = begins_with (codes "fed") fields
+abbrev pub is_fed_record : List (List ℕ) → Bool
+is_fed_record fields = begins_with (codes "fed") fields
 
 -- the first field says that the feeder issued a request
-abbrev pub is_issued : List (List ℕ) → Bool
-is_issued fields = begins_with (codes "issued") fields
+abbrev pub is_issued_record : List (List ℕ) → Bool
+is_issued_record fields = begins_with (codes "issued") fields
 
 -- the first field says that the feeder ended its lanes
-abbrev pub is_stop : List (List ℕ) → Bool
-is_stop fields = begins_with (codes "stopped") fields
+abbrev pub is_stop_record : List (List ℕ) → Bool
+is_stop_record fields = begins_with (codes "stopped") fields
 
 -- the record is of a refused request or of the feeder, whose records a part begins with
 abbrev pub leads : List (List ℕ) → Bool
-leads fields = is_refused fields || is_fed fields || is_issued fields || is_stop fields
+leads fields =
+    is_refused_record fields || is_fed_record fields || is_issued_record fields
+    || is_stop_record fields
 
 -- a part may end with the record: it is the feeder's last, or no record of those that lead
 abbrev pub may_end : List (List ℕ) → Bool
-may_end fields = is_stop fields || not (leads fields)
+may_end fields = is_stop_record fields || not (leads fields)
 
 -- a border stands between two neighbouring records
 abbrev pub is_border : List (List ℕ) → List (List ℕ) → Bool

@@ -5,8 +5,8 @@ use Rattle.audit_parts.specs.Ahead.{is_fault, is_read, parts_from}
 use Rattle.audit_parts.specs.declared.parts.AuditParts.{AuditParts}
 
 -- the parts that are still to come
-abbrev pub left_of : AuditParts → List (List (List (List ℕ)))
-left_of parts = parts_from (is_read parts.ahead) (fields_of parts.cells) parts.records
+abbrev pub parts_left : AuditParts → List (List (List (List ℕ)))
+parts_left parts = parts_from (is_read parts.ahead) (fields_of parts.cells) parts.records
 
 -- a call ran out of memory, so each later one does
 abbrev pub has_failed : AuditParts → Bool

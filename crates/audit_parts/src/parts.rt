@@ -39,7 +39,7 @@ pub struct AuditParts<'a> {
 }
 
 impl<'a> AuditParts<'a> {
-    ghost use Rattle.audit_parts.specs.Reading.{has_failed, left_of};
+    ghost use Rattle.audit_parts.specs.Reading.{has_failed, parts_left};
     ghost use Rattle.audit_parts.specs.Texts.{IsReadAs, IsTextOf};
 
     /// The parts of the audit of these bytes. `None` if its first record isn't the header, or if
@@ -49,7 +49,7 @@ impl<'a> AuditParts<'a> {
     ///
     /// Only out of memory.
     pub fn of(alloc: Global, bytes: &'a [u8]) -> Result<Option<Self>, NoMemory>
-        ensures parts { IfOk result (λ found. option_map left_of found
+        ensures parts { IfOk result (λ found. option_map parts_left found
             ≡ parts_of (records_of default_config (strip_bom bytes.now))) }
         ensures sound { IfOk result (λ found. IfSome found (λ parts. has_failed parts ≡ false)) }
     {
@@ -73,10 +73,10 @@ impl<'a> AuditParts<'a> {
     /// Only out of memory. Each later call then returns this error too.
     pub fn next_part(&mut self) -> Result<Option<AuditPart>, NoMemory>
         ensures part { IfOk result (λ given. IfSome given (λ part.
-            (records : List (List (List ℕ))) × (left_of self.old ≡ records ∷ left_of self.new)
+            (records : List (List (List ℕ))) × (parts_left self.old ≡ records ∷ parts_left self.new)
             × IsTextOf part records × IsReadAs part.text records)) }
         ensures none { IfOk result (λ given. IfNone given
-            ((left_of self.old ≡ []) × (left_of self.new ≡ []))) }
+            ((parts_left self.old ≡ []) × (parts_left self.new ≡ []))) }
         ensures failed { has_failed self.new ≡ is_err result }
         ensures fails { has_failed self.old ≡ true → has_failed self.new ≡ true }
     {

@@ -11,7 +11,7 @@ use Rattle.flow_model.specs.Begin.{Begin, view_at}
 use Rattle.flow_model.specs.Lanes.{lanes}
 use Rattle.flow_model.specs.declared.topology.Lane.{Lane}
 use Rattle.flow_model.specs.SetupView.{SetupView, Worker}
-use Rattle.flow_model.specs.Replay.{sent}
+use Rattle.flow_model.specs.Replay.{items_sent}
 use Rattle.flow_model.specs.Run.{put_by, ran_as, sent_by}
 use Rattle.flow_model.specs.Workers.{workers_in}
 use Rattle.flow_model.proofs.ElementLemmas.{IsIn}
@@ -87,7 +87,7 @@ module _ (begin : Begin) (setup : SetupView) (rows : List Row)
         slice_get begin.states w ≡ Some counts → slice_get journals w ≡ Some journal →
         lane.sender ≡ Some w →
         delivered begin setup rows journals lane
-        ≡ Some (sent setup who (view_at setup begin.turned who counts) lane journal)
+        ≡ Some (items_sent setup who (view_at setup begin.turned who counts) lane journal)
     delivered_here journals w who counts journal lane p q j e =
         ap (put_by begin rows (ran_as setup (feed_of begin setup rows) journals []) lane) e
         ∙ (ap (λ (x : Option Worker).

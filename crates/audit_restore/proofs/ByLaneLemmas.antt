@@ -7,7 +7,7 @@ use Rattle.std.proofs.lemmas.List.Elements.{filter-append}
 use Rattle.audit_laws.specs.declared.audit.AuditEntry.{AuditEntry}
 use Rattle.audit_laws.specs.declared.audit.AuditEntry.TheVariants as kept
 use Rattle.audit_laws.specs.Faults.{comes_by}
-use Rattle.audit_restore.specs.ByLane.{AreOnLanes, added_to, lane_of}
+use Rattle.audit_restore.specs.ByLane.{AreOnLanes, added_to, lane_came_by}
 
 get_set_here : {A : Type 0} (xs : List A) (i : ℕ) (a d : A) → i < length xs → get_or (slice_set xs i a) i d ≡ a
 get_set_here [] i a d lt = absurd (omega (arith, lt))
@@ -55,7 +55,7 @@ by n lane xs x lists comes on = record {
         get_set_elsewhere lists k lane (get_or lists lane [] ++ x ∷ []) [] (λ q. let t = eq-eqb lane k (sym q) in absurd (cc))
         ∙ (on.each k lt ∙ sym (append-nil (filter (comes_by k) xs)))
 
-pub one_more_on : (n : ℕ) (xs : List AuditEntry) (x : AuditEntry) (lists : List (List AuditEntry)) → AreOnLanes n xs lists → AreOnLanes n (xs ++ x ∷ []) (added_to lists x (lane_of x))
+pub one_more_on : (n : ℕ) (xs : List AuditEntry) (x : AuditEntry) (lists : List (List AuditEntry)) → AreOnLanes n xs lists → AreOnLanes n (xs ++ x ∷ []) (added_to lists x (lane_came_by x))
 one_more_on n xs (kept.Met lane row birth) lists on = by n lane xs (kept.Met lane row birth) lists (λ k. refl) on
 one_more_on n xs (kept.Marked lane request) lists on = by n lane xs (kept.Marked lane request) lists (λ k. refl) on
 one_more_on n xs (kept.Turned request) lists on = record {

@@ -21,12 +21,12 @@ use Rattle.audit_fault.specs.declared.fault.AuditFault.{AuditFault}
 use Rattle.audit_fault.specs.declared.fault.AuditFault.TheVariants as fault
 use Rattle.audit_laws.specs.Delivered.{delivered, feed_of}
 use Rattle.audit_laws.specs.Checked.{IsChecked}
-use Rattle.audit_laws.specs.Faults.{AreFinished, HasBadState, IsFaultOfWorkers, Listed}
+use Rattle.audit_laws.specs.Faults.{AreTrimmedFinished, HasBadState, IsFaultOfWorkers, Listed}
 use Rattle.audit_laws.specs.Fits.{kept_lines}
 use Rattle.audit_laws.specs.Lines.{counts_in, feeds_in, journal_in, lines_of, refusals_in}
 use Rattle.audit_laws.specs.declared.audit.Line.TheVariants as line
 use Rattle.audit_fault.specs.Noting.{IsNoted}
-use Rattle.audit_laws.specs.Lines.{IsLine, group_of}
+use Rattle.audit_laws.specs.Lines.{IsLawfulLine, group_of}
 use Rattle.audit_laws.specs.Trimmed.{trimmed}
 use Rattle.audit_laws.proofs.TextLemmas.{length-named}
 use Rattle.flow_model.proofs.ElementLemmas.{all_of_at, at_of_all, in_map, pair_of_all}
@@ -35,7 +35,7 @@ use Rattle.versions.specs.declared.fault.QFault.{QFault}
 use Rattle.versions.specs.declared.fault.QFault.TheVariants as why
 use Rattle.versions.specs.declared.in_order.Refused.{Refused}
 use Rattle.audit_restore.proofs.LinesLemmas.{Within, are_told}
-use Rattle.audit_laws.specs.Verdict.{AreInShape, IsFaultOf, by_worker}
+use Rattle.audit_laws.specs.Verdict.{AreInShape, IsFirstFault, by_worker}
 use Rattle.audit_laws.proofs.OneRunLemmas.{same_list}
 use Rattle.audit_laws.proofs.ShapeLemmas.{mapped_numbers}
 use Rattle.audit_journal.specs.Course.{IsFaultOfLaw}
@@ -55,7 +55,7 @@ law_fault begin setup order rows audit told (fault.Lane n) h = absurd h
 law_fault begin setup order rows audit told (fault.State w) h = absurd h
 law_fault begin setup order rows audit told fault.NoMemory h = tt
 
-pub lanes_fault : (begin : Begin) (setup : SetupView) (order : List ℕ) (rows : List Row) (audit : List (List AuditEntry)) (told : List Listed) → AreFinished begin setup rows audit → (f : AuditFault) → IsFaultOfLanes begin setup order rows audit f
+pub lanes_fault : (begin : Begin) (setup : SetupView) (order : List ℕ) (rows : List Row) (audit : List (List AuditEntry)) (told : List Listed) → AreTrimmedFinished begin setup rows audit → (f : AuditFault) → IsFaultOfLanes begin setup order rows audit f
     → IsFaultOfWorkers begin setup order rows audit told f
 lanes_fault begin setup order rows audit told law (fault.Shape i) h = h
 lanes_fault begin setup order rows audit told law (fault.Refused i) h = h
@@ -100,7 +100,7 @@ bad_state begin setup starts rows audit told journals states w all (lt, same, di
         → slice_get (map entries states) v ≡ Some (entries (final_counts setup begin p c j))
     counted v p c j inside q b h = slice_get-map entries states v ∙ ap (option_map entries) (all.counted v p c j inside q b h)
 
-pub states_fault : (begin : Begin) (setup : SetupView) → length begin.states ≡ length (workers_in setup.job) → (order : List ℕ) (rows : List Row) (audit : List (List AuditEntry)) (told : List Listed) (journals : List (List Entry)) (states : List Counts) → AreFinished begin setup rows audit
+pub states_fault : (begin : Begin) (setup : SetupView) → length begin.states ≡ length (workers_in setup.job) → (order : List ℕ) (rows : List Row) (audit : List (List AuditEntry)) (told : List Listed) (journals : List (List Entry)) (states : List Counts) → AreTrimmedFinished begin setup rows audit
     → AllRestored begin setup rows audit journals states → (f : AuditFault) → IsFirstOther told states f → IsFaultOfWorkers begin setup order rows audit told f
 states_fault begin setup starts order rows audit told journals states law all (fault.Shape i) h = h
 states_fault begin setup starts order rows audit told journals states law all (fault.Refused i) h = h
@@ -122,7 +122,7 @@ told_states setup lines told tells =
     mapped_numbers (counts_in lines) 0 (length (workers_in setup.job)) told.states.items tells.states_long (λ i lt. let z : i ≡ 0 + i = omega arith in tells.states_are i lt ∙ ap (λ k. Some (counts_in lines k)) z)
 
 pub text_fault : (begin : Begin) (setup : SetupView) (order : List ℕ) (refused : List Noted) (rows : List Row) (records : List (List (List ℕ))) (lines : List Line) (told : Told) → AreInShape setup.job records lines → refusals_in lines ≡ refused
-    → feeds_in lines ≡ feed_of begin setup rows → Tells (length (workers_in setup.job)) lines told → (f : AuditFault) → IsFaultOfWorkers begin setup order rows told.journals.items told.states.items f → IsFaultOf begin setup order refused rows records f
+    → feeds_in lines ≡ feed_of begin setup rows → Tells (length (workers_in setup.job)) lines told → (f : AuditFault) → IsFaultOfWorkers begin setup order rows told.journals.items told.states.items f → IsFirstFault begin setup order refused rows records f
 text_fault begin setup order refused rows records lines told shape r s tells (fault.Shape i) h = absurd h
 text_fault begin setup order refused rows records lines told shape r s tells (fault.Refused i) h = absurd h
 text_fault begin setup order refused rows records lines told shape r s tells (fault.Feed i) h = absurd h
@@ -148,7 +148,7 @@ text_fault begin setup order refused rows records lines told shape r s tells fau
 
 -- ---- the run
 
-pub is_checked : (begin : Begin) (setup : SetupView) → length begin.states ≡ length (workers_in setup.job) → (rows : List Row) (audit : List (List AuditEntry)) (journals : List (List Entry)) (states : List Counts) → AreFinished begin setup rows audit → length audit ≡ length (workers_in setup.job)
+pub is_checked : (begin : Begin) (setup : SetupView) → length begin.states ≡ length (workers_in setup.job) → (rows : List Row) (audit : List (List AuditEntry)) (journals : List (List Entry)) (states : List Counts) → AreTrimmedFinished begin setup rows audit → length audit ≡ length (workers_in setup.job)
     → AllRestored begin setup rows audit journals states → IsChecked begin setup rows audit journals states
 is_checked begin setup starts rows audit journals states law long all = record {
   one_start_each = starts;
@@ -171,7 +171,7 @@ is_checked begin setup starts rows audit journals states law long all = record {
 
 -- ---- the lines of the run
 
-within_line : (job : JobView) (l : Line) → IsLine job l → Within (length (workers_in job)) l
+within_line : (job : JobView) (l : Line) → IsLawfulLine job l → Within (length (workers_in job)) l
 within_line job (line.Refused noted) is = tt
 within_line job (line.Feed step) is = tt
 within_line job (line.Step w e) is = let lt = is.0 in omega (arith, lt, length-named 0 0 job.nodes)
@@ -181,7 +181,7 @@ pub lines_kept : (setup : SetupView) (refused : List Noted) (records : List (Lis
     → AreInShape setup.job records lines → refusals_in lines ≡ refused → feeds_in lines ≡ feeds → Tells (length (workers_in setup.job)) lines told → map trimmed journals ≡ told.journals.items
     → told.states.items ≡ map entries states → lines ≡ kept_lines refused (ran_as setup feeds journals states)
 lines_kept setup refused records lines told feeds journals states shape r s tells kept counted =
-    are_told (length (workers_in setup.job)) lines (λ l i. within_line setup.job l (at_of_all (IsLine setup.job) l lines shape.each i)) (λ a b q. pair_of_all (λ a b. group_of a ≤ group_of b) a b lines shape.ordered q)
+    are_told (length (workers_in setup.job)) lines (λ l i. within_line setup.job l (at_of_all (IsLawfulLine setup.job) l lines shape.each i)) (λ a b q. pair_of_all (λ a b. group_of a ≤ group_of b) a b lines shape.ordered q)
     ∙ (ap₂ (λ (x : List Noted) (y : List Feed). lines_of x y (by_worker setup (journal_in lines)) (by_worker setup (counts_in lines))) r s
     ∙ ap₂ (λ (x : List (List AuditEntry)) (y : List Listed). lines_of refused feeds x y) (told_journals setup lines told tells ∙ sym kept) (told_states setup lines told tells ∙ counted))
 

@@ -12,11 +12,11 @@ use Rattle.tuple_trace.specs.declared.row.Row.{Row}
 use Rattle.tuple_trace.specs.declared.tuple.Item.{Item}
 use Rattle.tuple_trace.specs.declared.tuple.Item.TheVariants as item
 use Rattle.flow_model.specs.declared.topology.Lane.{Lane}
-use Rattle.flow_model.specs.Feeding.{fed_put, fed_puts, row_at}
+use Rattle.flow_model.specs.Feeding.{fed_put, fed_puts, row_numbered}
 use Rattle.flow_model.specs.Lanes.{is_same_lane, lanes}
 use Rattle.flow_model.specs.Replay.{Put, item_on, items_on}
 use Rattle.flow_model.proofs.LaneLemmas.{lane_self, same_lane, same_number}
-use Rattle.audit_restore.specs.Standing.{AreAtTheirEnd, Holds, HoldsFeed, end_of, left_on}
+use Rattle.audit_restore.specs.Standing.{AreAtTheirEnd, HoldsLanes, HoldsFeed, feeder_end, left_on}
 use Rattle.audit_restore.proofs.IssueLemmas.{issues_in}
 use Rattle.audit_restore.proofs.StandingLemmas.{left_elsewhere, left_get, left_here}
 
@@ -29,7 +29,7 @@ left_none zero k = refl
 left_none (suc n) zero = refl
 left_none (suc n) (suc k) = left_none n k
 
-pub holds_nothing : (job : JobView) (standing : List (List Item)) (n : ℕ) → standing ≡ replicate n [] → n ≡ length (lanes job) → Holds job standing []
+pub holds_nothing : (job : JobView) (standing : List (List Item)) (n : ℕ) → standing ≡ replicate n [] → n ≡ length (lanes job) → HoldsLanes job standing []
 holds_nothing job standing n e long = record {
   long = ap length e ∙ (length_none n ∙ long);
   each = λ k lane g. ap (λ (l : List (List Item)). left_on l k) e ∙ left_none n k;
@@ -40,8 +40,8 @@ one_on lane puts put true e = filter_map-append (item_on lane) puts (put ∷ [])
 one_on lane puts put false e = filter_map-append (item_on lane) puts (put ∷ []) ∙ rw e refl
 
 -- an item that is put on a lane stands there
-pub holds_more : (job : JobView) (standing : List (List Item)) (puts : List Put) (n : ℕ) (lane : Lane) (put : Put) → Holds job standing puts → slice_get (lanes job) n ≡ Some lane → put.lane ≡ Some lane
-    → Holds job (slice_set standing n (get_or standing n [] ++ put.item ∷ [])) (puts ++ put ∷ [])
+pub holds_more : (job : JobView) (standing : List (List Item)) (puts : List Put) (n : ℕ) (lane : Lane) (put : Put) → HoldsLanes job standing puts → slice_get (lanes job) n ≡ Some lane → put.lane ≡ Some lane
+    → HoldsLanes job (slice_set standing n (get_or standing n [] ++ put.item ∷ [])) (puts ++ put ∷ [])
 holds_more job standing puts n lane put holds g on = record {
   long = length-set standing n (get_or standing n [] ++ put.item ∷ []) ∙ holds.long;
   each = λ k other h. go k other h (n == k) refl;
@@ -70,25 +70,25 @@ holds_more job standing puts n lane put holds g on = record {
             let eq = eq-eqb n k same in absurd (cc)
         differs false f = f
 
-pub holds_none : (job : JobView) (standing : List (List Item)) (puts : List Put) (put : Put) → Holds job standing puts → put.lane ≡ None → Holds job standing (puts ++ put ∷ [])
+pub holds_none : (job : JobView) (standing : List (List Item)) (puts : List Put) (put : Put) → HoldsLanes job standing puts → put.lane ≡ None → HoldsLanes job standing (puts ++ put ∷ [])
 holds_none job standing puts put holds on = record {
   long = holds.long;
   each = λ k other h. holds.each k other h ∙ (sym (append-nil (items_on other puts)) ∙ sym (one_on other puts put false (ap (λ (o : Option Lane). is_same_lane o other) on)));
 }
 
-pub holds_same : (job : JobView) (standing : List (List Item)) (puts more : List Put) → Holds job standing puts → more ≡ [] → Holds job standing (puts ++ more)
-holds_same job standing puts more holds e = subst (Holds job standing) (sym (ap (λ (l : List Put). puts ++ l) e ∙ append-nil puts)) holds
+pub holds_same : (job : JobView) (standing : List (List Item)) (puts more : List Put) → HoldsLanes job standing puts → more ≡ [] → HoldsLanes job standing (puts ++ more)
+holds_same job standing puts more holds e = subst (HoldsLanes job standing) (sym (ap (λ (l : List Put). puts ++ l) e ∙ append-nil puts)) holds
 
 -- ---- step by step
 
 -- what was put, and what the later steps put, is what the whole feed puts
 pub record AreFed (job : JobView) (rows : List Row) (begun : ℕ) (feeds : List Feed) (i issued : ℕ) (standing : List (List Item)) : Type 0 where
   pub puts : List Put
-  pub holds : Holds job standing puts
+  pub holds : HoldsLanes job standing puts
   pub all : puts ++ fed_puts job rows issued (drop i feeds) ≡ fed_puts job rows begun feeds
   pub few : issued + issues_in (drop i feeds) < 2 ^ 64
 
-pub fed_first : (job : JobView) (rows : List Row) (begun issued : ℕ) (feeds : List Feed) (standing : List (List Item)) → Holds job standing [] → issued ≡ begun → begun + issues_in feeds < 2 ^ 64
+pub fed_first : (job : JobView) (rows : List Row) (begun issued : ℕ) (feeds : List Feed) (standing : List (List Item)) → HoldsLanes job standing [] → issued ≡ begun → begun + issues_in feeds < 2 ^ 64
     → AreFed job rows begun feeds 0 issued standing
 fed_first job rows begun issued feeds standing holds is few = record {
   puts = [];
@@ -112,12 +112,12 @@ module _ (job : JobView) (rows : List Row) (begun : ℕ) (feeds : List Feed) (i 
     next : fed_puts job rows issued (drop i feeds) ≡ fed_puts job rows issued (get_or feeds i d ∷ drop (i + 1) feeds)
     next = ap (fed_puts job rows issued) (drop_more feeds i d lt)
 
-    pub fed_row : (row : ℕ) (new : List (List Item)) → get_or feeds i d ≡ feed.Fed row → Holds job new (are.puts ++ fed_put job issued (row_at rows row)) → AreFed job rows begun feeds (i + 1) issued new
+    pub fed_row : (row : ℕ) (new : List (List Item)) → get_or feeds i d ≡ feed.Fed row → HoldsLanes job new (are.puts ++ fed_put job issued (row_numbered rows row)) → AreFed job rows begun feeds (i + 1) issued new
     fed_row row new e holds = record {
-      puts = are.puts ++ fed_put job issued (row_at rows row);
+      puts = are.puts ++ fed_put job issued (row_numbered rows row);
       holds = holds;
       all =
-          append_assoc are.puts (fed_put job issued (row_at rows row)) (fed_puts job rows issued (drop (i + 1) feeds))
+          append_assoc are.puts (fed_put job issued (row_numbered rows row)) (fed_puts job rows issued (drop (i + 1) feeds))
           ∙ (ap (λ (l : List Put). are.puts ++ l) (sym (next ∙ ap (λ (x : Feed). fed_puts job rows issued (x ∷ drop (i + 1) feeds)) e)) ∙ are.all);
       few = left (feed.Fed row) e;
     }
@@ -143,7 +143,7 @@ fed_last job rows begun feeds i issued old new are past ends = record {
   long = ends.long ∙ are.holds.long;
   each = λ n lane g none.
       ends.each n lane g
-      ∙ (ap (λ (o : Option ℕ). left_on old n ++ end_of o) none
+      ∙ (ap (λ (o : Option ℕ). left_on old n ++ feeder_end o) none
       ∙ ap (λ (l : List Item). l ++ item.Last ∷ []) (are.holds.each n lane g ∙ ap (items_on lane) puts));
 }
   where
@@ -158,7 +158,7 @@ fed_last job rows begun feeds i issued old new are past ends = record {
 -- the ends of the lanes below this number were put
 pub record AreEnded (job : JobView) (n : ℕ) (old new : List (List Item)) : Type 0 where
   pub long : length new ≡ length old
-  pub below : (k : ℕ) (lane : Lane) → k < n → slice_get (lanes job) k ≡ Some lane → left_on new k ≡ left_on old k ++ end_of lane.sender
+  pub below : (k : ℕ) (lane : Lane) → k < n → slice_get (lanes job) k ≡ Some lane → left_on new k ≡ left_on old k ++ feeder_end lane.sender
   pub above : (k : ℕ) → n ≤ k → left_on new k ≡ left_on old k
 
 pub none_ended : (job : JobView) (old : List (List Item)) → AreEnded job 0 old old
@@ -173,10 +173,10 @@ one_ended job n old mid lane are lt g none = record {
     | inr more ↦
         let same : n ≡ k = omega (arith, le, more) in
         let lane_is : lane ≡ other = same_Some lane other (sym g ∙ (ap (slice_get (lanes job)) same ∙ h)) in
-        subst (λ j. left_on (slice_set mid n (get_or mid n [] ++ item.Last ∷ [])) j ≡ left_on old j ++ end_of other.sender) same
+        subst (λ j. left_on (slice_set mid n (get_or mid n [] ++ item.Last ∷ [])) j ≡ left_on old j ++ feeder_end other.sender) same
         (left_here mid n (get_or mid n [] ++ item.Last ∷ []) lt
         ∙ (ap (λ (l : List Item). l ++ item.Last ∷ []) (sym (left_get mid n) ∙ are.above n (omega arith))
-        ∙ ap (λ (o : Option ℕ). left_on old n ++ end_of o) (sym none ∙ ap (λ (l : Lane). l.sender) lane_is)))
+        ∙ ap (λ (o : Option ℕ). left_on old n ++ feeder_end o) (sym none ∙ ap (λ (l : Lane). l.sender) lane_is)))
   ];
   above = λ k le. left_elsewhere mid k n (get_or mid n [] ++ item.Last ∷ []) (λ q. absurd (omega (arith, le, q))) ∙ are.above k (omega (arith, le));
 }
@@ -194,7 +194,7 @@ one_not_ended job n old mid lane are g some = record {
   above = λ k le. are.above k (omega (arith, le));
 }
   where
-    no_end : (o : Option ℕ) → (o ≡ None → ⊥) → end_of o ≡ []
+    no_end : (o : Option ℕ) → (o ≡ None → ⊥) → feeder_end o ≡ []
     no_end None some = absurd (some refl)
     no_end (Some s) some = refl
 

@@ -17,10 +17,10 @@ use Rattle.audit_laws.specs.declared.audit.Line.{Line}
 use Rattle.audit_fault.specs.declared.fault.AuditFault.{AuditFault}
 use Rattle.audit_fault.specs.declared.fault.AuditFault.TheVariants as fault
 use Rattle.audit_laws.specs.Delivered.{feed_of}
-use Rattle.audit_laws.specs.Faults.{AreFinished, Listed}
+use Rattle.audit_laws.specs.Faults.{AreTrimmedFinished, Listed}
 use Rattle.audit_laws.specs.Lines.{counts_in, feeds_in, refusals_in}
 use Rattle.audit_laws.specs.Part.{AreRestorable, IsFirstCounted, IsPartFaultOf}
-use Rattle.audit_laws.specs.Verdict.{AreInShape, IsFaultOf}
+use Rattle.audit_laws.specs.Verdict.{AreInShape, IsFirstFault}
 use Rattle.audit_laws.proofs.OneRunLemmas.{same_list}
 use Rattle.audit_laws.proofs.RangeLemmas.{none_listed}
 use Rattle.audit_check.specs.Telling.{Tells}
@@ -36,8 +36,8 @@ abbrev pub bare : Begin → Begin
 bare begin = record begin { states = [] }
 
 -- a fault from both beginnings isn't one of counts
-pub first_fault : (begin : Begin) (setup : SetupView) (order : List ℕ) (refused : List Noted) (rows : List Row) (records : List (List (List ℕ))) (f : AuditFault) → IsFaultOf begin setup order refused rows records f
-    → IsFaultOf (bare begin) setup order refused rows records f → IsPartFaultOf begin setup order refused rows records f
+pub first_fault : (begin : Begin) (setup : SetupView) (order : List ℕ) (refused : List Noted) (rows : List Row) (records : List (List (List ℕ))) (f : AuditFault) → IsFirstFault begin setup order refused rows records f
+    → IsFirstFault (bare begin) setup order refused rows records f → IsPartFaultOf begin setup order refused rows records f
 first_fault begin setup order refused rows records (fault.Shape i) h k = h
 first_fault begin setup order refused rows records (fault.Refused i) h k = h
 first_fault begin setup order refused rows records (fault.Feed i) h k = h
@@ -48,7 +48,7 @@ first_fault begin setup order refused rows records fault.NoMemory h k = tt
 
 -- ---- the passes over the workers
 
-pub part_lanes_fault : (begin : Begin) (setup : SetupView) (order : List ℕ) (rows : List Row) (audit : List (List AuditEntry)) (told : List Listed) → AreFinished begin setup rows audit → (f : AuditFault)
+pub part_lanes_fault : (begin : Begin) (setup : SetupView) (order : List ℕ) (rows : List Row) (audit : List (List AuditEntry)) (told : List Listed) → AreTrimmedFinished begin setup rows audit → (f : AuditFault)
     → IsFaultOfLanes begin setup order rows audit f → IsPartFaultOfWorkers begin setup order rows audit told f
 part_lanes_fault begin setup order rows audit told law (fault.Shape i) h = h
 part_lanes_fault begin setup order rows audit told law (fault.Refused i) h = h
@@ -65,7 +65,7 @@ restorable begin setup rows audit journals states all = record {
   restored = λ w who p. all.restored w (slice_get_within (workers_in setup.job) w who p);
 }
 
-pub count_fault : (begin : Begin) (setup : SetupView) (order : List ℕ) (rows : List Row) (audit : List (List AuditEntry)) (told : List Listed) (journals : List (List Entry)) (states : List Counts) → AreFinished begin setup rows audit
+pub count_fault : (begin : Begin) (setup : SetupView) (order : List ℕ) (rows : List Row) (audit : List (List AuditEntry)) (told : List Listed) (journals : List (List Entry)) (states : List Counts) → AreTrimmedFinished begin setup rows audit
     → AllRestored begin setup rows audit journals states → (f : AuditFault) → IsFirstTold told f → IsPartFaultOfWorkers begin setup order rows audit told f
 count_fault begin setup order rows audit told journals states law all (fault.Shape i) h = h
 count_fault begin setup order rows audit told journals states law all (fault.Refused i) h = h
@@ -98,7 +98,7 @@ part_text_fault begin setup order refused rows records lines told shape r s tell
       shape,
       r,
       s,
-      subst (AreFinished begin setup rows) (sym e) h.0,
+      subst (AreTrimmedFinished begin setup rows) (sym e) h.0,
       subst (AreRestorable begin setup rows) (sym e) h.1,
       first_counted setup lines told tells w h.2,
     )

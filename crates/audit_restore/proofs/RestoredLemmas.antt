@@ -28,8 +28,8 @@ use Rattle.audit_fault.specs.declared.fault.AuditFault.{AuditFault}
 use Rattle.audit_fault.specs.declared.fault.AuditFault.TheVariants as fault
 use Rattle.audit_laws.specs.Delivered.{delivered, feed_of}
 use Rattle.audit_laws.specs.Checked.{IsFinishedDraft, ShowsDelivered}
-use Rattle.audit_laws.specs.Faults.{AreFinished, AreItems, ComesBefore, HasBadLane, IsRestored}
-use Rattle.audit_laws.specs.Restoring.{LanesAgree, delivered_by, delivered_on, items_of, restored}
+use Rattle.audit_laws.specs.Faults.{AreTrimmedFinished, AreItems, ComesBefore, HasBadLane, IsRestored}
+use Rattle.audit_laws.specs.Restoring.{LanesAgree, delivered_by, delivered_on, items_taken, restored}
 use Rattle.audit_laws.specs.Trimmed.{trimmed}
 use Rattle.audit_laws.proofs.FaultLemmas.{order_forward}
 use Rattle.audit_laws.proofs.RestoringLemmas.{ComeBy}
@@ -37,7 +37,7 @@ use Rattle.audit_laws.proofs.ConservedLemmas.{sender_stands}
 use Rattle.audit_laws.proofs.WorkerLemmas.{come_by, worker_restored}
 use Rattle.audit_check.proofs.TellingLemmas.{set_elsewhere, set_here}
 use Rattle.flow_replay.specs.Sent.{begun_counts}
-use Rattle.audit_restore.specs.Restored.{AgreeBelow, AllRestored, AreCounted, AreRestored, IsBadLane, IsDone, IsFaultOfLanes, IsLaneFault, IsOrder, IsReady, IsTaken}
+use Rattle.audit_restore.specs.Restored.{AgreeBelow, AllRestored, AreCounted, AreRestored, IsBadLane, IsAmongFirst, IsFaultOfLanes, IsLaneFault, IsOrder, IsReady, TookAndMade}
 use Rattle.audit_restore.specs.Standing.{HoldsFeed, left_on}
 use Rattle.audit_restore.specs.declared.restore.Restored.{Restored}
 use Rattle.audit_restore.proofs.TakingLemmas.{untouched}
@@ -54,10 +54,10 @@ not_before order a b (inr (node, x)) (inr (other, y)) = absurd (omega (arith, x,
 module _ (setup : SetupView) (dag : DagView) (connected : IsConnected setup.job) (edges : dag.edges ≡ setup.job.edges) (nodes : dag.nodes ≡ length setup.job.nodes) (workers : List ℕ) (is : IsOrder setup.job dag.order workers)
   where
     -- those that come before one are done before it
-    done_before : (k w v : ℕ) → slice_get workers k ≡ Some w → v < length (workers_in setup.job) → ComesBefore dag.order (nth_worker setup.job v) (nth_worker setup.job w) → IsDone workers k v
+    done_before : (k w v : ℕ) → slice_get workers k ≡ Some w → v < length (workers_in setup.job) → ComesBefore dag.order (nth_worker setup.job v) (nth_worker setup.job w) → IsAmongFirst workers k v
     done_before k w v g lt before = go (is.all v lt)
       where
-        go : (i : ℕ) × (slice_get workers i ≡ Some v) → IsDone workers k v
+        go : (i : ℕ) × (slice_get workers i ≡ Some v) → IsAmongFirst workers k v
         go (i, at) = elim (cases_lt i k) [
           | inl less ↦ (i, less, at)
           | inr more ↦ elim (cases_lt k i) [
@@ -70,7 +70,7 @@ module _ (setup : SetupView) (dag : DagView) (connected : IsConnected setup.job)
           ]
         ]
 
-    pub not_done : (k w : ℕ) → slice_get workers k ≡ Some w → IsDone workers k w → ⊥
+    pub not_done : (k w : ℕ) → slice_get workers k ≡ Some w → IsAmongFirst workers k w → ⊥
     not_done k w g (i, less, at) =
         let self = is.sorted i k w w at g less in
         not_before dag.order (nth_worker setup.job w) (nth_worker setup.job w) self self
@@ -106,7 +106,7 @@ module _ (setup : SetupView) (dag : DagView) (connected : IsConnected setup.job)
 
     -- and it is another
     pub other_sender : (k : ℕ) (n : ℕ) (lane : Lane) (w v : ℕ) → slice_get workers k ≡ Some w → slice_get (lanes setup.job) n ≡ Some lane → lane.receiver ≡ v → v < length (workers_in setup.job)
-        → (IsDone workers k v) ⊎ (v ≡ w) → lane.sender ≡ Some w → ⊥
+        → (IsAmongFirst workers k v) ⊎ (v ≡ w) → lane.sender ≡ Some w → ⊥
     other_sender k n lane w v at g r lt (inl (i, less, there)) sends =
         let ready = subst (IsReady workers i) sends (sender_ready i n lane v there g r lt) in
         not_done k w at (ready.0, (let l = ready.1 in omega (arith, l, less)), ready.2)
@@ -116,7 +116,7 @@ module _ (setup : SetupView) (dag : DagView) (connected : IsConnected setup.job)
 
     -- ---- one worker more
 
-    module _ (begin : Begin) (starts : length begin.states ≡ length (workers_in setup.job)) (rows : List Row) (audit : List (List AuditEntry)) (finished : AreFinished begin setup rows audit) (k w : ℕ) (at : slice_get workers k ≡ Some w) (t : List AuditEntry)
+    module _ (begin : Begin) (starts : length begin.states ≡ length (workers_in setup.job)) (rows : List Row) (audit : List (List AuditEntry)) (finished : AreTrimmedFinished begin setup rows audit) (k w : ℕ) (at : slice_get workers k ≡ Some w) (t : List AuditEntry)
         (there : slice_get audit w ≡ Some t) (old new : Restored) (before after : List (List Item)) (far : AreRestored begin setup rows audit workers k old.journals old.states before)
         (agree : AgreeBelow setup before w t (length (lanes setup.job)))
       where
@@ -141,7 +141,7 @@ module _ (setup : SetupView) (dag : DagView) (connected : IsConnected setup.job)
             (come_by setup begin.turned (feed_of begin setup rows) (nth_worker setup.job w) (initial (duties setup begin.turned (nth_worker setup.job w))) t law.lawful.execution)
 
         brings : (n : ℕ) (lane : Lane) → slice_get (lanes setup.job) n ≡ Some lane → lane.receiver ≡ w → delivered begin setup rows old.journals lane ≡ Some (left_on before n)
-        brings n lane g r = far.brings n lane g (sender_ready k n lane w at g r within) (λ done. not_done k w at (subst (IsDone workers k) r done))
+        brings n lane g r = far.brings n lane g (sender_ready k n lane w at g r within) (λ done. not_done k w at (subst (IsAmongFirst workers k) r done))
 
         agrees : LanesAgree begin setup rows old.journals w t
         agrees n lane g r = (left_on before n, brings n lane g r, agree n lane (slice_get_within (lanes setup.job) n lane g) g r)
@@ -152,7 +152,7 @@ module _ (setup : SetupView) (dag : DagView) (connected : IsConnected setup.job)
             go : (n : ℕ) → IsIn n (lanes_in setup.job w) → left_on before n ≡ delivered_on begin setup rows old.journals n
             go n i =
                 let l = in_lanes_that (λ (lane : Lane). lane.receiver == w) setup.job n i in
-                sym (ap (delivered_by begin setup rows old.journals) l.1 ∙ ap items_of (brings n l.0 l.1 (eqb-true l.0.receiver w l.2)))
+                sym (ap (delivered_by begin setup rows old.journals) l.1 ∙ ap items_taken (brings n l.0 l.1 (eqb-true l.0.receiver w l.2)))
 
         whole : (trimmed (restored (left_on before) t) ≡ t) × ShowsDelivered begin setup rows old.journals w (restored (left_on before) t)
         whole =
@@ -160,19 +160,19 @@ module _ (setup : SetupView) (dag : DagView) (connected : IsConnected setup.job)
             (worker_restored begin setup rows old.journals w (nth_worker setup.job w) t works law agrees)
 
         -- what is done now was done before, or is this worker
-        done_cases : (v : ℕ) → IsDone workers (k + 1) v → IsDone workers k v ⊎ (v ≡ w)
+        done_cases : (v : ℕ) → IsAmongFirst workers (k + 1) v → IsAmongFirst workers k v ⊎ (v ≡ w)
         done_cases v (i, less, here) = elim (cases_lt i k) [
           | inl lt ↦ inl (i, lt, here)
           | inr ge ↦ let e : i ≡ k = omega (arith, less, ge) in inr (same_Some v w (sym here ∙ (ap (slice_get workers) e ∙ at)))
         ]
 
-        this_done : IsDone workers (k + 1) w
+        this_done : IsAmongFirst workers (k + 1) w
         this_done = (k, omega arith, at)
 
-        still_done : (v : ℕ) → IsDone workers k v → IsDone workers (k + 1) v
+        still_done : (v : ℕ) → IsAmongFirst workers k v → IsAmongFirst workers (k + 1) v
         still_done v (i, less, here) = (i, omega (arith, less), here)
 
-        module _ (taken : IsTaken begin setup w t old new before after)
+        module _ (taken : TookAndMade begin setup w t old new before after)
           where
             journals_at : (v : ℕ) → v ≢ w → slice_get new.journals v ≡ slice_get old.journals v
             journals_at v ne = ap (λ (l : List (List Entry)). slice_get l v) taken.journals ∙ set_elsewhere old.journals v w (restored (left_on before) t) ne
@@ -186,16 +186,16 @@ module _ (setup : SetupView) (dag : DagView) (connected : IsConnected setup.job)
             brings_same lane ne =
                 ap (λ (l : List (List Entry)). delivered begin setup rows l lane) taken.journals ∙ delivered_elsewhere begin setup rows old.journals w (restored (left_on before) t) lane ne
 
-            restored_now : (v : ℕ) → IsDone workers (k + 1) v → IsRestored begin setup rows audit new.journals v
+            restored_now : (v : ℕ) → IsAmongFirst workers (k + 1) v → IsRestored begin setup rows audit new.journals v
             restored_now v done = go (done_cases v done)
               where
                 lt : v < length (workers_in setup.job)
                 lt = is.within done.0 v done.2
 
-                go : IsDone workers k v ⊎ (v ≡ w) → IsRestored begin setup rows audit new.journals v
+                go : IsAmongFirst workers k v ⊎ (v ≡ w) → IsRestored begin setup rows audit new.journals v
                 go (inl was) =
                     let r = far.restored v was in
-                    let apart : v ≢ w = λ e. not_done k w at (subst (IsDone workers k) e was) in
+                    let apart : v ≢ w = λ e. not_done k w at (subst (IsAmongFirst workers k) e was) in
                     record {
                       journal = r.journal;
                       there = journals_at v apart ∙ r.there;
@@ -209,12 +209,12 @@ module _ (setup : SetupView) (dag : DagView) (connected : IsConnected setup.job)
                   shows = λ n lane g r. brings_same lane (other_sender k n lane w v at g r lt (inr e)) ∙ whole.1 n lane g (r ∙ e);
                 }
 
-            counted_now : AreCounted begin setup new.journals new.states (IsDone workers (k + 1))
+            counted_now : AreCounted begin setup new.journals new.states (IsAmongFirst workers (k + 1))
             counted_now v p at_start journal done q b j = go (done_cases v done)
               where
-                go : IsDone workers k v ⊎ (v ≡ w) → slice_get new.states v ≡ Some (final_counts setup begin p at_start journal)
+                go : IsAmongFirst workers k v ⊎ (v ≡ w) → slice_get new.states v ≡ Some (final_counts setup begin p at_start journal)
                 go (inl was) =
-                    let apart : v ≢ w = λ e. not_done k w at (subst (IsDone workers k) e was) in
+                    let apart : v ≢ w = λ e. not_done k w at (subst (IsAmongFirst workers k) e was) in
                     ap (λ (l : List Counts). slice_get l v) taken.states
                     ∙ (set_elsewhere old.states v w (final_counts setup begin (nth_worker setup.job w) (begun_counts begin w) (restored (left_on before) t)) apart
                     ∙ far.counted v p at_start journal was q b (sym (journals_at v apart) ∙ j))
@@ -228,12 +228,12 @@ module _ (setup : SetupView) (dag : DagView) (connected : IsConnected setup.job)
                     ∙ (ap (λ (c : Counts). Some (final_counts setup begin (nth_worker setup.job w) c (restored (left_on before) t))) c_is
                     ∙ ap₂ (λ (x : Worker) (l : List Entry). Some (final_counts setup begin x at_start l)) p_is j_is)))
 
-            brings_now : (n : ℕ) (lane : Lane) → slice_get (lanes setup.job) n ≡ Some lane → IsReady workers (k + 1) lane.sender → (IsDone workers (k + 1) lane.receiver → ⊥)
+            brings_now : (n : ℕ) (lane : Lane) → slice_get (lanes setup.job) n ≡ Some lane → IsReady workers (k + 1) lane.sender → (IsAmongFirst workers (k + 1) lane.receiver → ⊥)
                 → delivered begin setup rows new.journals lane ≡ Some (left_on after n)
             brings_now n lane g ready waits = by_sender lane.sender refl ready
               where
                 elsewhere : lane.receiver ≢ w
-                elsewhere e = waits (subst (IsDone workers (k + 1)) (sym e) this_done)
+                elsewhere e = waits (subst (IsAmongFirst workers (k + 1)) (sym e) this_done)
 
                 no_lane_in : IsIn n (lanes_in setup.job w) → ⊥
                 no_lane_in i =
@@ -251,7 +251,7 @@ module _ (setup : SetupView) (dag : DagView) (connected : IsConnected setup.job)
                 by_sender None e ready = was (subst (IsReady workers k) (sym e) tt) (λ s. let f = sym e ∙ s in absurd (cc))
                 by_sender (Some s) e done = elim (done_cases s done) [
                   | inl early ↦ was (subst (IsReady workers k) (sym e) early) (λ q.
-                      let f : s ≡ w = same_Some s w (sym e ∙ q) in not_done k w at (subst (IsDone workers k) f early))
+                      let f : s ≡ w = same_Some s w (sym e ∙ q) in not_done k w at (subst (IsAmongFirst workers k) f early))
                   | inr here ↦
                       let sends : lane.sender ≡ Some w = e ∙ ap Some here in
                       delivered_here begin setup rows new.journals w (nth_worker setup.job w) (begun_counts begin w) (restored (left_on before) t) lane works begun journal_here sends ∙ ap Some (sym (taken.out n lane g sends))
@@ -298,7 +298,7 @@ module _ (setup : SetupView) (dag : DagView) (connected : IsConnected setup.job)
         }
       where
         brings : (n : ℕ) (lane : Lane) → slice_get (lanes setup.job) n ≡ Some lane → lane.receiver ≡ w → w < length (workers_in setup.job) → delivered begin setup rows journals lane ≡ Some (left_on standing n)
-        brings n lane g r within = far.brings n lane g (sender_ready k n lane w at g r within) (λ done. not_done k w at (subst (IsDone workers k) r done))
+        brings n lane g r within = far.brings n lane g (sender_ready k n lane w at g r within) (λ done. not_done k w at (subst (IsAmongFirst workers k) r done))
 
     pub lane_fault : (begin : Begin) (rows : List Row) (audit : List (List AuditEntry)) (k w : ℕ) → slice_get workers k ≡ Some w → (t : List AuditEntry) → slice_get audit w ≡ Some t
         → (journals : List (List Entry)) (states : List Counts) (standing : List (List Item)) → AreRestored begin setup rows audit workers k journals states standing → (f : AuditFault) → IsLaneFault setup standing w t f
@@ -339,5 +339,5 @@ module _ (setup : SetupView) (dag : DagView) (connected : IsConnected setup.job)
       counted = λ w p counts journal lt q b j. far.counted w p counts journal (done w lt) q b j;
     }
       where
-        done : (w : ℕ) → w < length (workers_in setup.job) → IsDone workers k w
+        done : (w : ℕ) → w < length (workers_in setup.job) → IsAmongFirst workers k w
         done w lt = let i = is.all w lt in (i.0, (let s = slice_get_within workers i.0 w i.1 in omega (arith, s, past)), i.1)

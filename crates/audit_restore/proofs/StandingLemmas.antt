@@ -4,7 +4,7 @@ use Rattle.std.specs.Prelude.{MatchOption, slice_set}
 use Rattle.std.proofs.lemmas.Bool.{eq-eqb, eqb-true}
 use Rattle.std.proofs.lemmas.List.{length-map, length-set}
 use Rattle.tuple_trace.specs.declared.tuple.Item.{Item}
-use Rattle.audit_laws.specs.Restoring.{items_of, later_items}
+use Rattle.audit_laws.specs.Restoring.{items_taken, later_items}
 use Rattle.audit_check.proofs.TellingLemmas.{set_elsewhere, set_here}
 use Rattle.audit_restore.specs.Standing.{HasTaken, left_on}
 
@@ -51,10 +51,10 @@ left_get (x ∷ standing) zero = refl
 left_get (x ∷ standing) (suc n) = left_get standing n
 
 pub left_here : (standing : List (List Item)) (n : ℕ) (items : List Item) → n < length standing → left_on (slice_set standing n items) n ≡ items
-left_here standing n items lt = ap items_of (set_here standing n items lt)
+left_here standing n items lt = ap items_taken (set_here standing n items lt)
 
 pub left_elsewhere : (standing : List (List Item)) (n k : ℕ) (items : List Item) → n ≢ k → left_on (slice_set standing k items) n ≡ left_on standing n
-left_elsewhere standing n k items ne = ap items_of (set_elsewhere standing n k items ne)
+left_elsewhere standing n k items ne = ap items_taken (set_elsewhere standing n k items ne)
 
 pub left_past : (standing : List (List Item)) (n : ℕ) → length standing ≤ n → left_on standing n ≡ []
 left_past [] n le = refl

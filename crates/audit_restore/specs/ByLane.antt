@@ -10,11 +10,11 @@ abbrev pub entries_of : List (Bor AuditEntry) → List AuditEntry
 entries_of entries = map (λ entry. entry.now) entries
 
 -- The lane that an entry came by.
-abbrev pub lane_of : AuditEntry → Option ℕ
-lane_of (kept.Met lane row birth) = Some lane
-lane_of (kept.Marked lane request) = Some lane
-lane_of (kept.Turned request) = None
-lane_of (kept.Ended lane) = Some lane
+abbrev pub lane_came_by : AuditEntry → Option ℕ
+lane_came_by (kept.Met lane row birth) = Some lane
+lane_came_by (kept.Marked lane request) = Some lane
+lane_came_by (kept.Turned request) = None
+lane_came_by (kept.Ended lane) = Some lane
 
 abbrev pub added_to : List (List AuditEntry) → AuditEntry → Option ℕ → List (List AuditEntry)
 added_to lists entry None = lists

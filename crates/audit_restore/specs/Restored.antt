@@ -21,7 +21,7 @@ use Rattle.audit_laws.specs.Delivered.{delivered}
 use Rattle.audit_laws.specs.Faults.{AreItems, ComesBefore, HasBadLane, IsRestored}
 use Rattle.audit_laws.specs.Faults.{Listed}
 use Rattle.audit_laws.specs.Restoring.{restored}
-use Rattle.flow_model.specs.Replay.{sent}
+use Rattle.flow_model.specs.Replay.{items_sent}
 use Rattle.flow_replay.specs.Sent.{begun_counts, begun_view}
 use Rattle.audit_restore.specs.declared.restore.Restored.{Restored}
 use Rattle.audit_restore.specs.Standing.{left_on, taken_all}
@@ -35,13 +35,13 @@ pub record IsOrder (job : JobView) (order : List ℕ) (workers : List ℕ) : Typ
       ComesBefore order (nth_worker job v) (nth_worker job w)
 
 -- The worker is among the first ones of these.
-abbrev pub IsDone : List ℕ → ℕ → ℕ → Type 0
-IsDone workers k w = (i : ℕ) × (i < k) × (slice_get workers i ≡ Some w)
+abbrev pub IsAmongFirst : List ℕ → ℕ → ℕ → Type 0
+IsAmongFirst workers k w = (i : ℕ) × (i < k) × (slice_get workers i ≡ Some w)
 
 -- The sender is the feeder, or is among them.
 abbrev pub IsReady : List ℕ → ℕ → Option ℕ → Type 0
 IsReady workers k None = ⊤
-IsReady workers k (Some w) = IsDone workers k w
+IsReady workers k (Some w) = IsAmongFirst workers k w
 
 -- The counts of each of them are those of its replay, from its counts at the beginning on.
 abbrev pub AreCounted :
@@ -60,11 +60,11 @@ pub record AreRestored (begin : Begin) (setup : SetupView) (rows : List Row)
   pub journals_long : length journals ≡ length (workers_in setup.job)
   pub states_long : length states ≡ length (workers_in setup.job)
   pub standing_long : length standing ≡ length (lanes setup.job)
-  pub restored : (w : ℕ) → IsDone workers k w → IsRestored begin setup rows audit journals w
-  pub counted : AreCounted begin setup journals states (IsDone workers k)
+  pub restored : (w : ℕ) → IsAmongFirst workers k w → IsRestored begin setup rows audit journals w
+  pub counted : AreCounted begin setup journals states (IsAmongFirst workers k)
   pub brings :
       (n : ℕ) (lane : Lane) → slice_get (lanes setup.job) n ≡ Some lane →
-      IsReady workers k lane.sender → (IsDone workers k lane.receiver → ⊥) →
+      IsReady workers k lane.sender → (IsAmongFirst workers k lane.receiver → ⊥) →
       delivered begin setup rows journals lane ≡ Some (left_on standing n)
 
 -- The journals of all workers are restored.
@@ -115,7 +115,7 @@ numbers_at job node count =
 
 -- A worker took what its trimmed journal says, and its replay is what stands on its lanes out. Its
 -- journal and its counts are set.
-pub record IsTaken (begin : Begin) (setup : SetupView) (w : ℕ) (journal : List AuditEntry)
+pub record TookAndMade (begin : Begin) (setup : SetupView) (w : ℕ) (journal : List AuditEntry)
     (old new : Restored) (before after : List (List Item)) : Type 0 where
   pub journals :
       new.journals ≡ slice_set old.journals w (restored (left_on before) journal)
@@ -128,7 +128,7 @@ pub record IsTaken (begin : Begin) (setup : SetupView) (w : ℕ) (journal : List
   pub out :
       (n : ℕ) (lane : Lane) → slice_get (lanes setup.job) n ≡ Some lane → lane.sender ≡ Some w →
       left_on after n
-      ≡ sent setup (nth_worker setup.job w) (begun_view setup begin w) lane
+      ≡ items_sent setup (nth_worker setup.job w) (begun_view setup begin w) lane
       (restored (left_on before) journal)
   pub others :
       (n : ℕ) (lane : Lane) → slice_get (lanes setup.job) n ≡ Some lane → lane.sender ≢ Some w →

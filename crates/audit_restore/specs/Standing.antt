@@ -12,30 +12,30 @@ use Rattle.flow_model.specs.Lanes.{lanes}
 use Rattle.flow_model.specs.Replay.{Put, items_on}
 use Rattle.audit_laws.specs.declared.audit.AuditEntry.{AuditEntry}
 use Rattle.audit_laws.specs.declared.audit.AuditEntry.TheVariants as kept
-use Rattle.audit_laws.specs.Restoring.{items_of, taken_from}
+use Rattle.audit_laws.specs.Restoring.{items_taken, taken_from}
 
 -- What stands on the lane with this number.
 abbrev pub left_on : List (List Item) → ℕ → List Item
-left_on standing n = items_of (slice_get standing n)
+left_on standing n = items_taken (slice_get standing n)
 
 -- On each lane stands what was put on it.
-pub record Holds (job : JobView) (standing : List (List Item)) (puts : List Put) : Type 0 where
+pub record HoldsLanes (job : JobView) (standing : List (List Item)) (puts : List Put) : Type 0 where
   pub long : length standing ≡ length (lanes job)
   pub each :
       (n : ℕ) (lane : Lane) → slice_get (lanes job) n ≡ Some lane →
       left_on standing n ≡ items_on lane puts
 
 -- The end that the feeder puts on its lanes.
-abbrev pub end_of : Option ℕ → List Item
-end_of None = item.Last ∷ []
-end_of (Some sender) = []
+abbrev pub feeder_end : Option ℕ → List Item
+feeder_end None = item.Last ∷ []
+feeder_end (Some sender) = []
 
 -- The ends of the feeder's lanes were put on them.
 pub record AreAtTheirEnd (job : JobView) (old new : List (List Item)) : Type 0 where
   pub long : length new ≡ length old
   pub each :
       (n : ℕ) (lane : Lane) → slice_get (lanes job) n ≡ Some lane →
-      left_on new n ≡ left_on old n ++ end_of lane.sender
+      left_on new n ≡ left_on old n ++ feeder_end lane.sender
 
 -- On each of the feeder's lanes stands what it puts there, after so many issued requests.
 pub record HoldsFeed (job : JobView) (rows : List Row) (issued : ℕ) (feeds : List Feed)

@@ -6,7 +6,7 @@ use Rattle.flow_model.specs.SetupView.{SetupView}
 use Rattle.audit_laws.specs.declared.audit.AuditEntry.{AuditEntry}
 use Rattle.audit_fault.specs.declared.fault.AuditFault.{AuditFault}
 use Rattle.audit_fault.specs.declared.fault.AuditFault.TheVariants as fault
-use Rattle.audit_laws.specs.Faults.{AreFinished, IsFaultOfWorkers, Listed}
+use Rattle.audit_laws.specs.Faults.{AreTrimmedFinished, IsFaultOfWorkers, Listed}
 use Rattle.audit_laws.specs.Part.{AreRestorable}
 
 -- No counts are told of the first `count` workers.
@@ -25,7 +25,7 @@ abbrev pub IsPartFaultOfWorkers :
     Begin → SetupView → List ℕ → List Row → List (List AuditEntry) → List Listed → AuditFault
     → Type 0
 IsPartFaultOfWorkers begin setup order rows audit told (fault.State w) =
-    AreFinished begin setup rows audit × AreRestorable begin setup rows audit
+    AreTrimmedFinished begin setup rows audit × AreRestorable begin setup rows audit
     × IsFirstTold told (fault.State w)
 IsPartFaultOfWorkers begin setup order rows audit told other =
     IsFaultOfWorkers begin setup order rows audit told other

@@ -3,7 +3,7 @@ ghost use Rattle.std.specs.Prelude.{◌≡◌, ◌<◌, ◌↔◌, [], IfOk, IsT
 ghost use Rattle.std.specs.Prelude.{get_or, length, map, replicate};
 ghost use Rattle.audit_laws.specs.Faults.{seen};
 ghost use Rattle.audit_restore.specs.ByLane.{AreOnLanes, added_to, entries_of};
-ghost use Rattle.audit_restore.specs.ByLane.{lane_of as lane_by};
+ghost use Rattle.audit_restore.specs.ByLane.{lane_came_by as lane_by};
 
 use audit_laws::AuditEntry;
 use std::alloc::Global;

@@ -9,10 +9,10 @@ ghost use Rattle.flow_model.specs.Run.{IsRunSince, Ran, ran_as};
 ghost use Rattle.flow_model.specs.Setup.{setup_view};
 ghost use Rattle.flow_model.specs.Workers.{workers_in};
 ghost use Rattle.audit_laws.specs.Delivered.{feed_of};
-ghost use Rattle.audit_laws.specs.Faults.{AreFinished, IsFaultOfWorkers};
+ghost use Rattle.audit_laws.specs.Faults.{AreTrimmedFinished, IsFaultOfWorkers};
 ghost use Rattle.audit_fault.specs.declared.fault.AuditFault.TheVariants.{NoMemory as OutOfMemory};
-ghost use Rattle.audit_laws.specs.Fits.{Fits, records_of};
-ghost use Rattle.audit_laws.specs.Verdict.{IsFaultOf};
+ghost use Rattle.audit_laws.specs.Fits.{Fits, csv_records};
+ghost use Rattle.audit_laws.specs.Verdict.{IsFirstFault};
 ghost use Rattle.fries_lines.specs.Lines.{noted as noted_as};
 ghost use Rattle.audit_restore.specs.Restored.{AllRestored};
 
@@ -56,8 +56,8 @@ pub fn check_audit(
     ensures fits { IfOk result (λ ran. Fits (map noted_as setup.judged.refused) bytes.now
         (record_view ran)) }
     ensures same { IfOk result (λ ran. ran.setup ≡ setup) }
-    ensures fault { IfErr result (IsFaultOf start.now (setup_view setup) setup.job.dag.order
-        (map noted_as setup.judged.refused) rows.now (records_of bytes.now)) }
+    ensures fault { IfErr result (IsFirstFault start.now (setup_view setup) setup.job.dag.order
+        (map noted_as setup.judged.refused) rows.now (csv_records bytes.now)) }
     ensures only { (run : Ran) → IsRunSince start.now (setup_view setup) rows.now run →
         Fits (map noted_as setup.judged.refused) bytes.now run →
         IfOk result (λ ran. record_view ran ≡ run) }
@@ -92,9 +92,9 @@ fn rebuild(
         (ran_as (setup_view setup.now) both.0 both.1.journals both.1.states)) }
     ensures fits { IfOk result (λ both. Fits (map noted_as setup.now.judged.refused) bytes.now
         (ran_as (setup_view setup.now) both.0 both.1.journals both.1.states)) }
-    ensures fault { IfErr result (IsFaultOf start.now (setup_view setup.now)
+    ensures fault { IfErr result (IsFirstFault start.now (setup_view setup.now)
         setup.now.job.dag.order (map noted_as setup.now.judged.refused) rows.now
-        (records_of bytes.now)) }
+        (csv_records bytes.now)) }
     ensures only { (run : Ran) → IsRunSince start.now (setup_view setup.now) rows.now run →
         Fits (map noted_as setup.now.judged.refused) bytes.now run →
         IfOk result (λ both.
@@ -131,7 +131,7 @@ fn restore_all(
         ≡ length (workers_in (setup_view setup.now).job) }
     requires states { length told.now.states.items
         ≡ length (workers_in (setup_view setup.now).job) }
-    ensures finished { OnOk result (AreFinished start.now (setup_view setup.now) rows.now
+    ensures finished { OnOk result (AreTrimmedFinished start.now (setup_view setup.now) rows.now
         told.now.journals.items) }
     ensures restored { IfOk result (λ restored. AllRestored start.now (setup_view setup.now)
         rows.now told.now.journals.items restored.journals restored.states) }

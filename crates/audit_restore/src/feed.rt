@@ -3,13 +3,13 @@ ghost use Rattle.std.specs.Prelude.{◌≡◌, ◌<◌, ◌↔◌, ◌++◌, IfO
 ghost use Rattle.std.specs.Prelude.{length};
 ghost use Rattle.std.specs.Prelude.{option_copied, slice_get};
 ghost use Rattle.jobs.specs.Nodes.{AreFromSources, IsSourceOf};
-ghost use Rattle.flow_model.specs.Feeding.{fed_put, row_at as row_of};
+ghost use Rattle.flow_model.specs.Feeding.{fed_put, row_numbered as row_of};
 ghost use Rattle.flow_model.specs.Replay.{Put};
 ghost use Rattle.flow_model.specs.Setup.{setup_view};
 ghost use Rattle.flow_model.specs.declared.topology.Lane.{Lane as LaneIs};
 ghost use Rattle.flow_model.specs.Lanes.{lanes};
 ghost use Rattle.audit_laws.specs.Delivered.{feed_of};
-ghost use Rattle.audit_restore.specs.Standing.{AreAtTheirEnd, Holds, HoldsFeed};
+ghost use Rattle.audit_restore.specs.Standing.{AreAtTheirEnd, HoldsLanes, HoldsFeed};
 
 use crate::standing::Standing;
 use flow_model::{Setup, Start, WorkerAt};
@@ -56,8 +56,9 @@ fn feed(
 ) -> Result<(), NoMemory>
     requires sources { AreFromSources (setup_view setup.now).job rows.now }
     requires long { length standing.old ≡ length (lanes (setup_view setup.now).job) }
-    ensures { (puts : List Put) → Holds (setup_view setup.now).job standing.old puts → OnOk result
-        (Holds (setup_view setup.now).job standing.new (puts
+    ensures { (puts : List Put) → HoldsLanes (setup_view setup.now).job standing.old puts
+        → OnOk result
+        (HoldsLanes (setup_view setup.now).job standing.new (puts
         ++ fed_put (setup_view setup.now).job issued (row_of rows.now row))) }
 {
     match row_at(rows, row) {
@@ -69,8 +70,9 @@ fn feed(
 fn put(setup: &Setup, standing: &mut Standing, row: &Row, issued: u64) -> Result<(), NoMemory>
     requires source { IsSourceOf (setup_view setup.now).job row.now.source }
     requires long { length standing.old ≡ length (lanes (setup_view setup.now).job) }
-    ensures { (puts : List Put) → Holds (setup_view setup.now).job standing.old puts → OnOk result
-        (Holds (setup_view setup.now).job standing.new (puts
+    ensures { (puts : List Put) → HoldsLanes (setup_view setup.now).job standing.old puts
+        → OnOk result
+        (HoldsLanes (setup_view setup.now).job standing.new (puts
         ++ fed_put (setup_view setup.now).job issued (Some row.now))) }
 {
     let feeder = WorkerAt {

@@ -8,8 +8,8 @@ ghost use Rattle.flow_model.specs.Setup.{setup_view};
 ghost use Rattle.flow_model.specs.Workers.{workers_in};
 ghost use Rattle.audit_laws.specs.declared.audit.Line.{Line as LineIs};
 ghost use Rattle.audit_laws.specs.Delivered.{feed_of};
-ghost use Rattle.audit_laws.specs.Faults.{AreFinished};
-ghost use Rattle.audit_laws.specs.Fits.{Fits, records_of};
+ghost use Rattle.audit_laws.specs.Faults.{AreTrimmedFinished};
+ghost use Rattle.audit_laws.specs.Fits.{Fits, csv_records};
 ghost use Rattle.audit_laws.specs.Lines.{feeds_in, refusals_in};
 ghost use Rattle.audit_laws.specs.Part.{IsPartFaultOf, uncounted};
 ghost use Rattle.audit_laws.specs.Verdict.{AreInShape};
@@ -63,7 +63,7 @@ pub fn check_part(
     ensures fits { IfOk result (λ ran. Fits refused.now bytes.now (uncounted (record_view ran))) }
     ensures same { IfOk result (λ ran. ran.setup ≡ setup) }
     ensures fault { IfErr result (IsPartFaultOf start.now (setup_view setup) setup.job.dag.order
-        refused.now rows.now (records_of bytes.now)) }
+        refused.now rows.now (csv_records bytes.now)) }
     ensures only { (run : Ran) → IsRunSince start.now (setup_view setup) rows.now run →
         Fits refused.now bytes.now (uncounted run) → IfOk result (λ ran. record_view ran ≡ run) }
     ensures found { (run : Ran) → IsRunSince start.now (setup_view setup) rows.now run →
@@ -98,7 +98,7 @@ fn rebuild_part(
     ensures fits { IfOk result (λ both. Fits refused.now bytes.now (uncounted
         (ran_as (setup_view setup.now) both.0 both.1.journals both.1.states))) }
     ensures fault { IfErr result (IsPartFaultOf start.now (setup_view setup.now)
-        setup.now.job.dag.order refused.now rows.now (records_of bytes.now)) }
+        setup.now.job.dag.order refused.now rows.now (csv_records bytes.now)) }
     ensures only { (run : Ran) → IsRunSince start.now (setup_view setup.now) rows.now run →
         Fits refused.now bytes.now (uncounted run) → IfOk result (λ both.
         ran_as (setup_view setup.now) both.0 both.1.journals both.1.states ≡ run) }
@@ -129,13 +129,13 @@ fn read_part(
     ensures feeds { IfOk result (λ both.
         both.1 ≡ feed_of start.now (setup_view setup.now) rows.now) }
     ensures lines { IfOk result (λ both. (lines : List LineIs) ×
-        AreInShape (setup_view setup.now).job (records_of bytes.now) lines
+        AreInShape (setup_view setup.now).job (csv_records bytes.now) lines
         × (refusals_in lines ≡ refused.now)
         × (feeds_in lines ≡ feed_of start.now (setup_view setup.now) rows.now)
         × Tells (length (workers_in (setup_view setup.now).job)) lines both.0) }
     ensures fault { IfErr result
         (IsPartFaultOf start.now (setup_view setup.now) setup.now.job.dag.order refused.now
-        rows.now (records_of bytes.now)) }
+        rows.now (csv_records bytes.now)) }
 {
     let told = read_audit(alloc, setup, bytes)?;
     let feeds = read_feed(alloc, setup, start, refused, rows, bytes)?;
@@ -153,16 +153,16 @@ fn read_feed(
     bytes: &[u8],
 ) -> Result<Feeds, AuditFault>
     requires { (lines : List LineIs) ×
-        AreInShape (setup_view setup.now).job (records_of bytes.now) lines }
+        AreInShape (setup_view setup.now).job (csv_records bytes.now) lines }
     ensures feeds { IfOk result (λ feeds.
         feeds ≡ feed_of start.now (setup_view setup.now) rows.now) }
     ensures lines { OnOk result ((lines : List LineIs) →
-        AreInShape (setup_view setup.now).job (records_of bytes.now) lines →
+        AreInShape (setup_view setup.now).job (csv_records bytes.now) lines →
         (refusals_in lines ≡ refused.now)
         × (feeds_in lines ≡ feed_of start.now (setup_view setup.now) rows.now)) }
     ensures fault { IfErr result
         (IsPartFaultOf start.now (setup_view setup.now) setup.now.job.dag.order refused.now
-        rows.now (records_of bytes.now)) }
+        rows.now (csv_records bytes.now)) }
 {
     check_refused(alloc, setup, refused, bytes)?;
     let feeds = feed_of_rows(alloc, setup, start, rows)?;
@@ -186,7 +186,7 @@ fn restore_part(
         ≡ length (workers_in (setup_view setup.now).job) }
     requires states { length told.now.states.items
         ≡ length (workers_in (setup_view setup.now).job) }
-    ensures finished { OnOk result (AreFinished start.now (setup_view setup.now) rows.now
+    ensures finished { OnOk result (AreTrimmedFinished start.now (setup_view setup.now) rows.now
         told.now.journals.items) }
     ensures restored { IfOk result (λ restored. AllRestored start.now (setup_view setup.now)
         rows.now told.now.journals.items restored.journals restored.states) }

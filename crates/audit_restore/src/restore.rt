@@ -5,8 +5,8 @@ ghost use Rattle.flow_model.specs.Lanes.{lanes};
 ghost use Rattle.flow_model.specs.Setup.{setup_view};
 ghost use Rattle.flow_model.specs.Workers.{workers_in};
 ghost use Rattle.audit_laws.specs.Delivered.{feed_of};
-ghost use Rattle.audit_laws.specs.Faults.{AreFinished};
-ghost use Rattle.audit_restore.specs.Restored.{AllRestored, IsFaultOfLanes, IsTaken};
+ghost use Rattle.audit_laws.specs.Faults.{AreTrimmedFinished};
+ghost use Rattle.audit_restore.specs.Restored.{AllRestored, IsFaultOfLanes, TookAndMade};
 
 use crate::feed::fed_lanes;
 use crate::lanes::check_lanes;
@@ -47,7 +47,7 @@ pub(crate) fn restore(
     requires starts { length start.now.states ≡ length (workers_in (setup_view setup.now).job) }
     requires feeds { feeds.now ≡ feed_of start.now (setup_view setup.now) rows.now }
     requires long { length audit.now ≡ length (workers_in (setup_view setup.now).job) }
-    requires finished { AreFinished start.now (setup_view setup.now) rows.now audit.now }
+    requires finished { AreTrimmedFinished start.now (setup_view setup.now) rows.now audit.now }
     ensures ok { IfOk result (λ restored. AllRestored start.now (setup_view setup.now) rows.now
         audit.now restored.journals restored.states) }
     ensures fault { IfErr result (IsFaultOfLanes start.now (setup_view setup.now)
@@ -97,7 +97,8 @@ impl Restored {
         requires states { length self.old.states
             ≡ length (workers_in (setup_view setup.now).job) }
         requires lanes { length standing.old ≡ length (lanes (setup_view setup.now).job) }
-        ensures { OnOk result (IsTaken start.now (setup_view setup.now) worker journal.now self.old
+        ensures { OnOk result (TookAndMade start.now (setup_view setup.now)
+            worker journal.now self.old
             self.new standing.old standing.new) }
     {
         let journal = take_all(alloc, standing, journal)?;

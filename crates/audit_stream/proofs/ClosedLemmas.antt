@@ -3,7 +3,7 @@ use Rattle.std.proofs.Common.{◌≡◌, ◌∙◌, ◌<◌, ◌≤◌, ◌+◌,
 use Rattle.std.specs.Prelude.{◌&&◌, ◌||◌, filter, not}
 use Rattle.std.proofs.lemmas.List.{append_assoc, append-nil, length-append}
 use Rattle.std.proofs.lemmas.List.Folds.{list_any-append}
-use Rattle.audit_stream.specs.Together.{has_stop, is_stop, last_ends}
+use Rattle.audit_stream.specs.Together.{has_stop, tells_stop, last_ends}
 use Rattle.audit_stream.specs.Sorting.{closed_from, closes, stop_place}
 
 -- the records without all stops and ends
@@ -34,7 +34,7 @@ or_false true = refl
 or_false false = refl
 
 stop_later : (xs ys : List (List (List ℕ))) → has_stop ys ≡ true → has_stop (xs ++ ys) ≡ true
-stop_later xs ys e = list_any-append is_stop xs ys ∙ (rw e (or_true (has_stop xs)))
+stop_later xs ys e = list_any-append tells_stop xs ys ∙ (rw e (or_true (has_stop xs)))
 
 -- before records with a stop, all stops and ends are left out
 pub last_ends-append : (xs ys : List (List (List ℕ))) → has_stop ys ≡ true → last_ends (xs ++ ys) ≡ open_ones xs ++ last_ends ys
@@ -81,19 +81,19 @@ or_later false c e = e
 pub no_stop : (xs : List (List (List ℕ))) → has_stop xs ≡ false → last_ends xs ≡ xs
 no_stop [] e = refl
 no_stop (x ∷ xs) e =
-    let later : has_stop xs ≡ false = or_later (is_stop x) (has_stop xs) e in
+    let later : has_stop xs ≡ false = or_later (tells_stop x) (has_stop xs) e in
     if_last (closes x) (has_stop xs) (last_ends xs) (x ∷ last_ends xs) later ∙ ap (λ (l : List (List (List ℕ))). x ∷ l) (no_stop xs later)
 
-stop_place-stop : (xs : List (List (List ℕ))) (x : List (List ℕ)) → is_stop x ≡ true → stop_place (xs ++ x ∷ []) ≡ length xs
+stop_place-stop : (xs : List (List (List ℕ))) (x : List (List ℕ)) → tells_stop x ≡ true → stop_place (xs ++ x ∷ []) ≡ length xs
 stop_place-stop [] x e = refl
 stop_place-stop (y ∷ xs) x e =
     let here : has_stop (x ∷ []) ≡ true = rw e refl in
     ap₂ (λ (b : Bool) (n : ℕ). cond b (suc n) 0) (stop_later xs (x ∷ []) here) (stop_place-stop xs x e)
 
-stop_place-push : (xs : List (List (List ℕ))) (x : List (List ℕ)) → is_stop x ≡ false → stop_place (xs ++ x ∷ []) ≡ stop_place xs
+stop_place-push : (xs : List (List (List ℕ))) (x : List (List ℕ)) → tells_stop x ≡ false → stop_place (xs ++ x ∷ []) ≡ stop_place xs
 stop_place-push [] x e = refl
 stop_place-push (y ∷ xs) x e =
-    let same : has_stop (xs ++ x ∷ []) ≡ has_stop xs = list_any-append is_stop xs (x ∷ []) ∙ (rw e (or_false (has_stop xs))) in
+    let same : has_stop (xs ++ x ∷ []) ≡ has_stop xs = list_any-append tells_stop xs (x ∷ []) ∙ (rw e (or_false (has_stop xs))) in
     ap₂ (λ (b : Bool) (n : ℕ). cond b (suc n) 0) same (stop_place-push xs x e)
 
 -- what the last stop leaves out stands among the records before it
@@ -130,7 +130,7 @@ one_past records above left x e = e ∙ sym (append_assoc above (x ∷ []) left)
 pub count_past : (above : List (List (List ℕ))) (x : List (List ℕ)) (number : ℕ) → number ≡ length above → number + 1 ≡ length (above ++ x ∷ [])
 count_past above x number e = omega (arith, e, length-append above (x ∷ []))
 
-pub read_stop : (records left : List (List (List ℕ))) (x : List (List ℕ)) (number stop : ℕ) → AreReadTo records (x ∷ left) number stop → is_stop x ≡ true
+pub read_stop : (records left : List (List (List ℕ))) (x : List (List ℕ)) (number stop : ℕ) → AreReadTo records (x ∷ left) number stop → tells_stop x ≡ true
     → AreReadTo records left (number + 1) number
 read_stop records left x number stop at e = record {
   above = at.above ++ x ∷ [];
@@ -139,7 +139,7 @@ read_stop records left x number stop at e = record {
   stop_is = at.number_is ∙ sym (stop_place-stop at.above x e);
 }
 
-pub read_other : (records left : List (List (List ℕ))) (x : List (List ℕ)) (number stop : ℕ) → AreReadTo records (x ∷ left) number stop → is_stop x ≡ false
+pub read_other : (records left : List (List (List ℕ))) (x : List (List ℕ)) (number stop : ℕ) → AreReadTo records (x ∷ left) number stop → tells_stop x ≡ false
     → AreReadTo records left (number + 1) stop
 read_other records left x number stop at e = record {
   above = at.above ++ x ∷ [];

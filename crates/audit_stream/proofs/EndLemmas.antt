@@ -15,7 +15,7 @@ use Rattle.sink_journal.specs.declared.journal.Entry.TheVariants as entry
 use Rattle.sink_journal.specs.declared.journal.Feed.{Feed}
 use Rattle.sink_journal.specs.declared.journal.Feed.TheVariants as feed
 use Rattle.savepoint.specs.Parts.{endless, unstopped}
-use Rattle.audit_stream.specs.Together.{has_stop, is_stop, last_ends}
+use Rattle.audit_stream.specs.Together.{has_stop, tells_stop, last_ends}
 use Rattle.audit_stream.specs.Told.{IsLast, PartTold, part_records}
 use Rattle.audit_stream.proofs.ClosedLemmas.{if_last, last_ends-append, no_stop, open_ones}
 use Rattle.audit_stream.proofs.GroupLemmas.{Section, open_both, open_twice}
@@ -45,7 +45,7 @@ or_none : (a b : Bool) → a ≡ false → b ≡ false → (a || b) ≡ false
 or_none a b e f = rw e f
 
 none_stop : (a b : Section) → has_stop a ≡ false → has_stop b ≡ false → has_stop (a ++ b) ≡ false
-none_stop a b e f = list_any-append is_stop a b ∙ or_none (has_stop a) (has_stop b) e f
+none_stop a b e f = list_any-append tells_stop a b ∙ or_none (has_stop a) (has_stop b) e f
 
 entries_stop : (node : List ℕ) (place : ℕ) (xs : List Entry) → has_stop (map (entry_fields node place) xs) ≡ false
 entries_stop node place [] = refl
@@ -111,7 +111,7 @@ last_kept job last is =
 pub last_stops : (job : JobView) (last : PartTold) → IsLast job last → has_stop (part_records job last) ≡ true
 last_stops job last is =
     let end : Section = feed_fields feed.Stopped ∷ nodes_records job.nodes last.journals last.states in
-    ap has_stop (last_is job last is) ∙ (list_any-append is_stop (last_steps last) end ∙ or_some (has_stop (last_steps last)))
+    ap has_stop (last_is job last is) ∙ (list_any-append tells_stop (last_steps last) end ∙ or_some (has_stop (last_steps last)))
   where
     or_some : (b : Bool) → (b || true) ≡ true
     or_some true = refl

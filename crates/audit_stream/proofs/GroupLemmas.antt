@@ -6,7 +6,7 @@ use Rattle.std.proofs.lemmas.Bool.{cases_Bool, eq-eqb, eqb-true, false≢true, n
 use Rattle.std.proofs.lemmas.List.{append_assoc, append-nil}
 use Rattle.std.proofs.lemmas.List.Elements.{filter-append}
 use Rattle.jobs.specs.JobView.{JobView}
-use Rattle.audit_stream.specs.Together.{group_of, in_group}
+use Rattle.audit_stream.specs.Together.{record_group, in_group}
 use Rattle.audit_stream.specs.Sorting.{closes}
 use Rattle.audit_stream.proofs.ClosedLemmas.{open_ones}
 
@@ -18,17 +18,17 @@ Section = List (List (List ℕ))
 -- each record is of the group
 abbrev pub AllIn : JobView → ℕ → Section → Type 0
 AllIn job g [] = ⊤
-AllIn job g (x ∷ xs) = (group_of job x ≡ g) × AllIn job g xs
+AllIn job g (x ∷ xs) = (record_group job x ≡ g) × AllIn job g xs
 
 -- no record is of the group
 abbrev pub NoneIn : JobView → ℕ → Section → Type 0
 NoneIn job g [] = ⊤
-NoneIn job g (x ∷ xs) = (group_of job x ≡ g → ⊥) × NoneIn job g xs
+NoneIn job g (x ∷ xs) = (record_group job x ≡ g → ⊥) × NoneIn job g xs
 
 -- each record is of an earlier group
 abbrev AllBefore : JobView → ℕ → Section → Type 0
 AllBefore job g [] = ⊤
-AllBefore job g (x ∷ xs) = (group_of job x < g) × AllBefore job g xs
+AllBefore job g (x ∷ xs) = (record_group job x < g) × AllBefore job g xs
 
 -- the sections are those of the groups from this one on
 abbrev pub AreSections : JobView → ℕ → List Section → Type 0
@@ -40,7 +40,7 @@ abbrev pub joined_of : List Section → Section
 joined_of [] = []
 joined_of (s ∷ sections) = s ++ joined_of sections
 
-pub all_map : {A : Type 0} (job : JobView) (g : ℕ) (f : A → List (List ℕ)) → ((x : A) → group_of job (f x) ≡ g) → (xs : List A) → AllIn job g (map f xs)
+pub all_map : {A : Type 0} (job : JobView) (g : ℕ) (f : A → List (List ℕ)) → ((x : A) → record_group job (f x) ≡ g) → (xs : List A) → AllIn job g (map f xs)
 all_map job g f h [] = tt
 all_map job g f h (x ∷ xs) = (h x, all_map job g f h xs)
 
@@ -80,15 +80,15 @@ later_none job g k (s ∷ sections) h lt =
 pub in_all : (job : JobView) (g : ℕ) (a : Section) → AllIn job g a → in_group job a g ≡ a
 in_all job g [] h = refl
 in_all job g (x ∷ a) h =
-    ap₂ (λ (b : Bool) (l : Section). cond b (x ∷ l) l) (eq-eqb (group_of job x) g h.0) (in_all job g a h.1)
+    ap₂ (λ (b : Bool) (l : Section). cond b (x ∷ l) l) (eq-eqb (record_group job x) g h.0) (in_all job g a h.1)
 
 pub in_none : (job : JobView) (g : ℕ) (a : Section) → NoneIn job g a → in_group job a g ≡ []
 in_none job g [] h = refl
 in_none job g (x ∷ a) h =
-    ap₂ (λ (b : Bool) (l : Section). cond b (x ∷ l) l) (ne_eqb (group_of job x) g h.0) (in_none job g a h.1)
+    ap₂ (λ (b : Bool) (l : Section). cond b (x ∷ l) l) (ne_eqb (record_group job x) g h.0) (in_none job g a h.1)
 
 pub in_both : (job : JobView) (g : ℕ) (a b : Section) → in_group job (a ++ b) g ≡ in_group job a g ++ in_group job b g
-in_both job g a b = filter-append (λ fields. group_of job fields == g) a b
+in_both job g a b = filter-append (λ fields. record_group job fields == g) a b
 
 -- ---- sections stay in order
 
@@ -212,7 +212,7 @@ twice p (x ∷ a) = go (p x) refl (twice p a)
     go false e later = rw e later
 
 pub open_in_group : (job : JobView) (g : ℕ) (a : Section) → in_group job (open_ones a) g ≡ open_ones (in_group job a g)
-open_in_group job g a = filters (λ fields. group_of job fields == g) (λ fields. not (closes fields)) a
+open_in_group job g a = filters (λ fields. record_group job fields == g) (λ fields. not (closes fields)) a
 
 pub open_twice : (a : Section) → open_ones (open_ones a) ≡ open_ones a
 open_twice a = twice (λ fields. not (closes fields)) a

@@ -8,8 +8,8 @@ use Rattle.std.proofs.lemmas.List.FromFn.{get_or-map-range_with_len, length-map-
 use Rattle.jobs.specs.JobView.{JobView}
 use Rattle.audit_laws.specs.Names.{named_workers}
 use Rattle.audit_stream.specs.Places.{last_places, places_together}
-use Rattle.audit_stream.specs.Together.{group_count, group_of, has_stop, in_group, is_stop, last_ends, together}
-use Rattle.audit_stream.specs.Sorting.{Spelled, closes, group_among, left_out, place_lists, places_from, stop_place, workers_spelled}
+use Rattle.audit_stream.specs.Together.{group_count, record_group, has_stop, in_group, tells_stop, last_ends, together}
+use Rattle.audit_stream.specs.Sorting.{SpelledWorker, closes, group_among, is_left_out, place_lists, places_from, stop_place, workers_spelled}
 use Rattle.audit_stream.proofs.ClosedLemmas.{count_past, one_past}
 use Rattle.audit_stream.proofs.SortLemmas.{get_or-any, group_same, map_same, map_set, mapped_long}
 
@@ -19,39 +19,39 @@ one_or_not : (c : Bool) (place : ℕ) (xs ys : List ℕ) → cond c (xs ++ ys) (
 one_or_not true place xs ys = refl
 one_or_not false place xs ys = refl
 
-places_append : (workers : List Spelled) (g stop place : ℕ) (xs ys : List (List (List ℕ)))
+places_append : (workers : List SpelledWorker) (g stop place : ℕ) (xs ys : List (List (List ℕ)))
     → places_from workers g stop place (xs ++ ys) ≡ places_from workers g stop place xs ++ places_from workers g (stop - length xs) (place + length xs) ys
 places_append workers g stop place [] ys =
     let s : stop ≡ stop - 0 = omega arith in
     let p : place ≡ place + 0 = omega arith in
     ap₂ (λ a b. places_from workers g a b ys) s p
 places_append workers g stop place (x ∷ xs) ys =
-    let c : Bool = left_out stop x || not (group_among workers x == g) in
+    let c : Bool = is_left_out stop x || not (group_among workers x == g) in
     let s : stop - 1 - length xs ≡ stop - suc (length xs) = omega arith in
     let p : place + 1 + length xs ≡ place + suc (length xs) = omega arith in
     let later = places_append workers g (stop - 1) (place + 1) xs ys ∙ ap₂ (λ a b. places_from workers g (stop - 1) (place + 1) xs ++ places_from workers g a b ys) s p in
     ap (λ (l : List ℕ). cond c l (place ∷ l)) later
     ∙ one_or_not c place (places_from workers g (stop - 1) (place + 1) xs) (places_from workers g (stop - suc (length xs)) (place + suc (length xs)) ys)
 
-abbrev place_text : List Spelled → ℕ → List (List (List ℕ)) → ℕ → List ℕ
+abbrev place_text : List SpelledWorker → ℕ → List (List (List ℕ)) → ℕ → List ℕ
 place_text workers stop records g = places_from workers g stop 1 records
 
 -- what is left out stands in no list
-left_same : (workers : List Spelled) (stop : ℕ) (above : List (List (List ℕ))) (x : List (List ℕ)) → left_out (stop - length above) x ≡ true → (k : ℕ)
+left_same : (workers : List SpelledWorker) (stop : ℕ) (above : List (List (List ℕ))) (x : List (List ℕ)) → is_left_out (stop - length above) x ≡ true → (k : ℕ)
     → place_text workers stop (above ++ x ∷ []) k ≡ place_text workers stop above k
 left_same workers stop above x is k =
     places_append workers k stop 1 above (x ∷ [])
     ∙ (ap (λ (b : Bool). place_text workers stop above k ++ cond (b || not (group_among workers x == k)) [] ((1 + length above) ∷ [])) is
     ∙ append-nil (place_text workers stop above k))
 
-own_place : (workers : List Spelled) (stop : ℕ) (above : List (List (List ℕ))) (x : List (List ℕ)) → left_out (stop - length above) x ≡ false
+own_place : (workers : List SpelledWorker) (stop : ℕ) (above : List (List (List ℕ))) (x : List (List ℕ)) → is_left_out (stop - length above) x ≡ false
     → place_text workers stop (above ++ x ∷ []) (group_among workers x) ≡ place_text workers stop above (group_among workers x) ++ (1 + length above) ∷ []
 own_place workers stop above x isnt =
     let g : ℕ = group_among workers x in
     places_append workers g stop 1 above (x ∷ [])
     ∙ ap₂ (λ (b c : Bool). place_text workers stop above g ++ cond (b || not c) [] ((1 + length above) ∷ [])) isnt (eq-eqb g g refl)
 
-other_place : (workers : List Spelled) (stop : ℕ) (above : List (List (List ℕ))) (x : List (List ℕ)) → left_out (stop - length above) x ≡ false → (k : ℕ)
+other_place : (workers : List SpelledWorker) (stop : ℕ) (above : List (List (List ℕ))) (x : List (List ℕ)) → is_left_out (stop - length above) x ≡ false → (k : ℕ)
     → (k ≡ group_among workers x → ⊥) → place_text workers stop (above ++ x ∷ []) k ≡ place_text workers stop above k
 other_place workers stop above x isnt k ne =
     places_append workers k stop 1 above (x ∷ [])
@@ -61,20 +61,20 @@ other_place workers stop above x isnt k ne =
 -- ---- sorting them in turn
 
 -- The places of these records were sorted, and the others are left.
-pub record ArePlacedTo (workers : List Spelled) (stop : ℕ) (records left : List (List (List ℕ))) (number : ℕ) (lists : List (List ℕ)) : Type 0 where
+pub record ArePlacedTo (workers : List SpelledWorker) (stop : ℕ) (records left : List (List (List ℕ))) (number : ℕ) (lists : List (List ℕ)) : Type 0 where
   pub above : List (List (List ℕ))
   pub records_are : records ≡ above ++ left
   pub number_is : number ≡ length above
   pub lists_are : lists ≡ place_lists workers stop above
 
-pub placed_none : (workers : List Spelled) (stop : ℕ) (records : List (List (List ℕ))) (lists : List (List ℕ)) → lists ≡ place_lists workers stop []
+pub placed_none : (workers : List SpelledWorker) (stop : ℕ) (records : List (List (List ℕ))) (lists : List (List ℕ)) → lists ≡ place_lists workers stop []
     → ArePlacedTo workers stop records records 0 lists
 placed_none workers stop records lists e = record { above = []; records_are = refl; number_is = refl; lists_are = e }
 
-pub lists_long : (workers : List Spelled) (stop : ℕ) (above : List (List (List ℕ))) → length (place_lists workers stop above) ≡ 3 + length workers
+pub lists_long : (workers : List SpelledWorker) (stop : ℕ) (above : List (List (List ℕ))) → length (place_lists workers stop above) ≡ 3 + length workers
 lists_long workers stop above = length-map-range_with_len (place_text workers stop above) 0 (3 + length workers)
 
-placed_by : (workers : List Spelled) (stop : ℕ) (records left : List (List (List ℕ))) (x : List (List ℕ)) (number : ℕ) (lists new : List (List ℕ))
+placed_by : (workers : List SpelledWorker) (stop : ℕ) (records left : List (List (List ℕ))) (x : List (List ℕ)) (number : ℕ) (lists new : List (List ℕ))
     → (at : ArePlacedTo workers stop records (x ∷ left) number lists) → new ≡ place_lists workers stop (at.above ++ x ∷ [])
     → ArePlacedTo workers stop records left (number + 1) new
 placed_by workers stop records left x number lists new at e = record {
@@ -91,18 +91,18 @@ and_none : (b c : Bool) → c ≡ false → (b && c) ≡ false
 and_none true c e = e
 and_none false c e = refl
 
-pub placed_skip : (workers : List Spelled) (stop : ℕ) (records left : List (List (List ℕ))) (x : List (List ℕ)) (number : ℕ) (lists : List (List ℕ))
+pub placed_skip : (workers : List SpelledWorker) (stop : ℕ) (records left : List (List (List ℕ))) (x : List (List ℕ)) (number : ℕ) (lists : List (List ℕ))
     → ArePlacedTo workers stop records (x ∷ left) number lists → number < stop → closes x ≡ true
     → ArePlacedTo workers stop records left (number + 1) lists
 placed_skip workers stop records left x number lists at lt is =
     let n = at.number_is in
     let more : 0 < stop - length at.above = omega arith in
-    let out : left_out (stop - length at.above) x ≡ true = and_left (nat_lt 0 (stop - length at.above)) (closes x) (lt-ltb 0 (stop - length at.above) more) is in
+    let out : is_left_out (stop - length at.above) x ≡ true = and_left (nat_lt 0 (stop - length at.above)) (closes x) (lt-ltb 0 (stop - length at.above) more) is in
     placed_by workers stop records left x number lists lists at
     (at.lists_are ∙ sym (map_same (place_text workers stop at.above) (place_text workers stop (at.above ++ x ∷ [])) 0 (3 + length workers) (λ k le. left_same workers stop at.above x out k)))
 
-kept_so : (workers : List Spelled) (stop : ℕ) (records left : List (List (List ℕ))) (x : List (List ℕ)) (number g : ℕ) (lists new : List (List ℕ))
-    → (at : ArePlacedTo workers stop records (x ∷ left) number lists) → left_out (stop - length at.above) x ≡ false → g ≡ group_among workers x → g < 3 + length workers
+kept_so : (workers : List SpelledWorker) (stop : ℕ) (records left : List (List (List ℕ))) (x : List (List ℕ)) (number g : ℕ) (lists new : List (List ℕ))
+    → (at : ArePlacedTo workers stop records (x ∷ left) number lists) → is_left_out (stop - length at.above) x ≡ false → g ≡ group_among workers x → g < 3 + length workers
     → new ≡ set lists g (get_or lists g [] ++ (number + 1) ∷ []) → ArePlacedTo workers stop records left (number + 1) new
 kept_so workers stop records left x number g lists new at isnt own lt added =
     let above : List (List (List ℕ)) = at.above in
@@ -125,21 +125,21 @@ pub pushed_at : (lists : List (List ℕ)) (g : ℕ) (part : List ℕ) (place : �
 pushed_at lists g part place new pushed lt at added =
     at ∙ ap (set lists g) (added ∙ ap (λ (l : List ℕ). l ++ place ∷ []) (get_or-any lists g part [] lt))
 
-pub placed_late : (workers : List Spelled) (stop : ℕ) (records left : List (List (List ℕ))) (x : List (List ℕ)) (number g : ℕ) (lists new : List (List ℕ))
+pub placed_late : (workers : List SpelledWorker) (stop : ℕ) (records left : List (List (List ℕ))) (x : List (List ℕ)) (number g : ℕ) (lists new : List (List ℕ))
     → ArePlacedTo workers stop records (x ∷ left) number lists → stop ≤ number → g ≡ group_among workers x → g < 3 + length workers
     → new ≡ set lists g (get_or lists g [] ++ (number + 1) ∷ []) → ArePlacedTo workers stop records left (number + 1) new
 placed_late workers stop records left x number g lists new at le own lt added =
     let n = at.number_is in
     let none : stop - length at.above ≡ 0 = omega arith in
-    kept_so workers stop records left x number g lists new at (ap (λ s. left_out s x) none) own lt added
+    kept_so workers stop records left x number g lists new at (ap (λ s. is_left_out s x) none) own lt added
 
-pub placed_open : (workers : List Spelled) (stop : ℕ) (records left : List (List (List ℕ))) (x : List (List ℕ)) (number g : ℕ) (lists new : List (List ℕ))
+pub placed_open : (workers : List SpelledWorker) (stop : ℕ) (records left : List (List (List ℕ))) (x : List (List ℕ)) (number g : ℕ) (lists new : List (List ℕ))
     → ArePlacedTo workers stop records (x ∷ left) number lists → closes x ≡ false → g ≡ group_among workers x → g < 3 + length workers
     → new ≡ set lists g (get_or lists g [] ++ (number + 1) ∷ []) → ArePlacedTo workers stop records left (number + 1) new
 placed_open workers stop records left x number g lists new at isnt own lt added =
     kept_so workers stop records left x number g lists new at (and_none (nat_lt 0 (stop - length at.above)) (closes x) isnt) own lt added
 
-pub placed_all : (workers : List Spelled) (stop : ℕ) (records : List (List (List ℕ))) (number : ℕ) (lists : List (List ℕ)) → ArePlacedTo workers stop records [] number lists
+pub placed_all : (workers : List SpelledWorker) (stop : ℕ) (records : List (List (List ℕ))) (number : ℕ) (lists : List (List ℕ)) → ArePlacedTo workers stop records [] number lists
     → lists ≡ place_lists workers stop records
 placed_all workers stop records number lists at =
     at.lists_are ∙ ap (place_lists workers stop) (sym (at.records_are ∙ append-nil at.above))
@@ -160,9 +160,9 @@ or_later false c e = e
 
 stop_none : (xs : List (List (List ℕ))) → has_stop xs ≡ false → stop_place xs ≡ 0
 stop_none [] e = refl
-stop_none (x ∷ xs) e = ap (λ (b : Bool). cond b (suc (stop_place xs)) 0) (or_later (is_stop x) (has_stop xs) e)
+stop_none (x ∷ xs) e = ap (λ (b : Bool). cond b (suc (stop_place xs)) 0) (or_later (tells_stop x) (has_stop xs) e)
 
-out_same : (x : List (List ℕ)) (later : List (List (List ℕ))) (b : Bool) → has_stop later ≡ b → (closes x && has_stop later) ≡ left_out (stop_place (x ∷ later)) x
+out_same : (x : List (List ℕ)) (later : List (List (List ℕ))) (b : Bool) → has_stop later ≡ b → (closes x && has_stop later) ≡ is_left_out (stop_place (x ∷ later)) x
 out_same x later true e =
     let s : stop_place (x ∷ later) ≡ suc (stop_place later) = ap (λ (b : Bool). cond b (suc (stop_place later)) 0) e in
     ap (λ (b : Bool). closes x && b) e ∙ (and_true (closes x)
@@ -184,7 +184,7 @@ places_same : (job : JobView) (g place : ℕ) (records : List (List (List ℕ)))
     → last_places job g place records ≡ places_from (workers_spelled job) g (stop_place records) place records
 places_same job g place [] = refl
 places_same job g place (x ∷ later) =
-    let workers : List Spelled = workers_spelled job in
+    let workers : List SpelledWorker = workers_spelled job in
     let rest = places_same job g (place + 1) later ∙ ap (λ s. places_from workers g s (place + 1) later) (next_same x later (has_stop later) refl) in
     let out = ap₂ (λ (b : Bool) (n : ℕ). b || not (n == g)) (out_same x later (has_stop later) refl) (sym (group_same job x)) in
     ap₂ (λ (b : Bool) (l : List ℕ). cond b l (place ∷ l)) out rest
@@ -196,7 +196,7 @@ joined_lists f h same (k ∷ ks) = ap₂ (λ (a b : List ℕ). a ++ b) (same k) 
 pub places_so : (job : JobView) (records : List (List (List ℕ))) (first : List (List ℕ)) (body : List (List (List ℕ))) → records ≡ first ∷ body
     → 0 ∷ concat (place_lists (workers_spelled job) (stop_place body) body) ≡ places_together job records
 places_so job records first body e =
-    let workers : List Spelled = workers_spelled job in
+    let workers : List SpelledWorker = workers_spelled job in
     ap (λ n. 0 ∷ concat (map (place_text workers (stop_place body) body) (range_with_len 0 (3 + n)))) (mapped_long (named_workers job.nodes))
     ∙ (ap (λ (l : List ℕ). 0 ∷ l) (joined_lists (place_text workers (stop_place body) body) (λ g. last_places job g 1 body) (λ g. sym (places_same job g 1 body)) (range_with_len 0 (group_count job)))
     ∙ sym (ap (places_together job) e))
@@ -219,11 +219,11 @@ listed job g place above (x ∷ later) e =
     let next : map (read_at all) (last_places job g (place + 1) later) ≡ in_group job (last_ends later) g =
     ap (λ (l : List (List (List ℕ))). map (read_at l) (last_places job g (place + 1) later)) (sym (append_assoc above (x ∷ []) later))
     ∙ listed job g (place + 1) (above ++ x ∷ []) later (count_past above x place e) in
-    by_cases job g place all x (last_places job g (place + 1) later) (last_ends later) (closes x && has_stop later) (group_of job x == g) refl here next
+    by_cases job g place all x (last_places job g (place + 1) later) (last_ends later) (closes x && has_stop later) (record_group job x == g) refl here next
   where
     by_cases : (job : JobView) (g place : ℕ) (all : List (List (List ℕ))) (x : List (List ℕ)) (places : List ℕ) (ends : List (List (List ℕ))) (c d : Bool)
-        → (group_of job x == g) ≡ d → read_at all place ≡ x → map (read_at all) places ≡ in_group job ends g
-        → map (read_at all) (cond (c || not (group_of job x == g)) places (place ∷ places)) ≡ in_group job (cond c ends (x ∷ ends)) g
+        → (record_group job x == g) ≡ d → read_at all place ≡ x → map (read_at all) places ≡ in_group job ends g
+        → map (read_at all) (cond (c || not (record_group job x == g)) places (place ∷ places)) ≡ in_group job (cond c ends (x ∷ ends)) g
     by_cases job g place all x places ends true d e here next = next
     by_cases job g place all x places ends false true e here next = rw e (ap₂ (λ (a : List (List ℕ)) (l : List (List (List ℕ))). a ∷ l) here next)
     by_cases job g place all x places ends false false e here next = rw e next

@@ -14,8 +14,8 @@ use Rattle.csv.proofs.RoundTrip.{read-write}
 use Rattle.jobs.specs.JobView.{JobView}
 use Rattle.sink_journal.specs.Audit.{audit_header}
 use Rattle.sink_journal.specs.Records.{record_text, records_text}
-use Rattle.audit_laws.specs.Fits.{records_of}
-use Rattle.audit_stream.specs.Together.{by_group, group_count, group_of, in_group, last_ends, together}
+use Rattle.audit_laws.specs.Fits.{csv_records}
+use Rattle.audit_stream.specs.Together.{by_group, group_count, record_group, in_group, last_ends, together}
 use Rattle.audit_stream.specs.Sorting.{closed_from, closes, group_texts, stop_place, workers_spelled}
 use Rattle.audit_stream.proofs.ClosedLemmas.{ends_closed}
 use Rattle.audit_stream.proofs.SortLemmas.{texts_by_group}
@@ -94,7 +94,7 @@ have_closed (suc stop) (x ∷ rows) h = go (closes x) (have_closed stop rows h.1
     go false later = (h.0, later)
 
 have_groups : (job : JobView) (rows : List (List (List ℕ))) → HaveFields rows → HaveFields (by_group job rows)
-have_groups job rows h = have_each (in_group job rows) (λ g. have_filter (λ fields. group_of job fields == g) rows h) (range_with_len 0 (group_count job))
+have_groups job rows h = have_each (in_group job rows) (λ g. have_filter (λ fields. record_group job fields == g) rows h) (range_with_len 0 (group_count job))
 
 -- ---- reading them back
 
@@ -121,7 +121,7 @@ bare : (rows : List (List (List ℕ))) → strip_bom (records_text (audit_header
 unfolding strip_bom is_blank fields_text
 bare rows = refl
 
-read_back : (rows : List (List (List ℕ))) → HaveFields rows → records_of (records_text (audit_header ∷ rows)) ≡ audit_header ∷ rows
+read_back : (rows : List (List (List ℕ))) → HaveFields rows → csv_records (records_text (audit_header ∷ rows)) ≡ audit_header ∷ rows
 read_back rows h =
     let all : List (List (List ℕ)) = audit_header ∷ rows in
     ap (records default_config) (bare rows) ∙ reads_all (length (records_text all) + 1) all (omega (arith, as_long all)) (tt, h)
@@ -132,12 +132,12 @@ pub if_ok : {T E : Type 0} (P Q : T → Type 0) (r : Result T E) → ((t : T) �
 if_ok P Q (Ok t) f p = f t p
 if_ok P Q (Err e) f p = tt
 
-pub put_back : (job : JobView) (bytes text : List ℕ) (stop : ℕ) (body : List (List (List ℕ))) → records_of bytes ≡ audit_header ∷ body → stop ≡ stop_place body
-    → text ≡ record_text audit_header ++ concat (group_texts (workers_spelled job) (closed_from stop body)) → records_of text ≡ together job (records_of bytes)
+pub put_back : (job : JobView) (bytes text : List ℕ) (stop : ℕ) (body : List (List (List ℕ))) → csv_records bytes ≡ audit_header ∷ body → stop ≡ stop_place body
+    → text ≡ record_text audit_header ++ concat (group_texts (workers_spelled job) (closed_from stop body)) → csv_records text ≡ together job (csv_records bytes)
 put_back job bytes text stop body are last made =
     let ends : last_ends body ≡ closed_from stop body = ends_closed body ∙ ap (λ n. closed_from n body) (sym last) in
     let kept : List (List (List ℕ)) = closed_from stop body in
     let all : HaveFields (audit_header ∷ body) = subst HaveFields are (from_has (length (strip_bom bytes) + 1) st.StartRecord (strip_bom bytes)) in
-    ap records_of (made ∙ ap (λ (t : List ℕ). record_text audit_header ++ t) (texts_by_group job kept))
+    ap csv_records (made ∙ ap (λ (t : List ℕ). record_text audit_header ++ t) (texts_by_group job kept))
     ∙ (read_back (by_group job kept) (have_groups job kept (have_closed stop body all.1))
     ∙ (ap (λ (l : List (List (List ℕ))). audit_header ∷ by_group job l) (sym ends) ∙ sym (ap (together job) are)))

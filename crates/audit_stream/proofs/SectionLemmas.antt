@@ -18,7 +18,7 @@ use Rattle.sink_journal.specs.declared.journal.Feed.TheVariants as feed
 use Rattle.audit_laws.specs.Names.{Named, named_at, named_workers}
 use Rattle.audit_laws.proofs.TextLemmas.{length-named_at}
 use Rattle.audit_stream.specs.Sorting.{is_spelled, number_spelled, spelled, workers_spelled}
-use Rattle.audit_stream.specs.Together.{by_group, group_count, group_of}
+use Rattle.audit_stream.specs.Together.{by_group, group_count, record_group}
 use Rattle.audit_stream.specs.Told.{HasEach, PartTold, part_records}
 use Rattle.audit_stream.proofs.GroupLemmas.{AllIn, AreSections, Section, all_both, all_map, groups_back, joined_of}
 use Rattle.audit_stream.proofs.SortLemmas.{group_same}
@@ -96,17 +96,17 @@ number_is job law w x there =
     (slice_get-map spelled (named_workers job.nodes) w ∙ ap (λ o. option_map spelled o) there) (own_spelled x.node (decimal x.place))
 
 entry_group : (job : JobView) (w : ℕ) (node : List ℕ) (place : ℕ) → number_spelled (workers_spelled job) node (decimal place) ≡ w
-    → (x : Entry) → group_of job (entry_fields node place x) ≡ 2 + w
+    → (x : Entry) → record_group job (entry_fields node place x) ≡ 2 + w
 entry_group job w node place at (entry.Met lane tuple) = sym (group_same job (entry_fields node place (entry.Met lane tuple))) ∙ ap (λ n. 2 + n) at
 entry_group job w node place at (entry.Marked lane request) = sym (group_same job (entry_fields node place (entry.Marked lane request))) ∙ ap (λ n. 2 + n) at
 entry_group job w node place at (entry.Turned request) = sym (group_same job (entry_fields node place (entry.Turned request))) ∙ ap (λ n. 2 + n) at
 entry_group job w node place at (entry.Ended lane) = sym (group_same job (entry_fields node place (entry.Ended lane))) ∙ ap (λ n. 2 + n) at
 
 state_group : (job : JobView) (w : ℕ) (node : List ℕ) (place : ℕ) → number_spelled (workers_spelled job) node (decimal place) ≡ w
-    → (x : List ℕ × ℤ) → group_of job (state_fields node place x) ≡ 2 + w
+    → (x : List ℕ × ℤ) → record_group job (state_fields node place x) ≡ 2 + w
 state_group job w node place at (key, count) = sym (group_same job (state_fields node place (key, count))) ∙ ap (λ n. 2 + n) at
 
-feed_group : (job : JobView) (x : Feed) → group_of job (feed_fields x) ≡ 1
+feed_group : (job : JobView) (x : Feed) → record_group job (feed_fields x) ≡ 1
 feed_group job (feed.Fed row) = refl
 feed_group job (feed.Issued request) = refl
 feed_group job feed.Stopped = refl

@@ -10,8 +10,8 @@ use Rattle.std.proofs.lemmas.List.FromFn.{get_or-map-range_with_len, length-map-
 use Rattle.jobs.specs.JobView.{JobView}
 use Rattle.sink_journal.specs.Records.{record_text, records_text}
 use Rattle.audit_laws.specs.Names.{Named, named_workers}
-use Rattle.audit_stream.specs.Together.{begins_with, by_group, field, group_count, group_of, in_group, is_step, names}
-use Rattle.audit_stream.specs.Sorting.{Spelled, closed_from, closes, group_among, group_text, group_texts, number_spelled, spelled, workers_spelled}
+use Rattle.audit_stream.specs.Together.{begins_with, by_group, field, group_count, record_group, in_group, tells_step, is_of_worker}
+use Rattle.audit_stream.specs.Sorting.{SpelledWorker, closed_from, closes, group_among, group_text, group_texts, number_spelled, spelled, workers_spelled}
 use Rattle.audit_stream.proofs.ClosedLemmas.{closed_from-open, closed_from-push, closed_from-skip, count_past, one_past}
 
 -- ---- one more record
@@ -29,7 +29,7 @@ map_set f h a (suc n) zero j v lt e own other =
 map_set f h a (suc n) (suc i) j v lt e own other =
     ap₂ (λ (x : List ℕ) (xs : List (List ℕ)). x ∷ xs) (other a (λ z. omega arith)) (map_set f h (a + 1) n i j v (omega arith) (omega arith) own other)
 
-own_text : (workers : List Spelled) (above : List (List (List ℕ))) (x : List (List ℕ)) → group_text workers (above ++ x ∷ []) (group_among workers x)
+own_text : (workers : List SpelledWorker) (above : List (List (List ℕ))) (x : List (List ℕ)) → group_text workers (above ++ x ∷ []) (group_among workers x)
     ≡ group_text workers above (group_among workers x) ++ record_text x
 own_text workers above x =
     let g : ℕ = group_among workers x in
@@ -38,7 +38,7 @@ own_text workers above x =
     ap records_text (filter-append p above (x ∷ []) ∙ ap (λ (b : Bool). filter p above ++ cond b (x ∷ []) []) own)
     ∙ (flat_map-append record_text (filter p above) (x ∷ []) ∙ ap (λ (t : List ℕ). records_text (filter p above) ++ t) (append-nil (record_text x)))
 
-other_text : (workers : List Spelled) (above : List (List (List ℕ))) (x : List (List ℕ)) (k : ℕ) → (k ≡ group_among workers x → ⊥)
+other_text : (workers : List SpelledWorker) (above : List (List (List ℕ))) (x : List (List ℕ)) (k : ℕ) → (k ≡ group_among workers x → ⊥)
     → group_text workers (above ++ x ∷ []) k ≡ group_text workers above k
 other_text workers above x k ne =
     let p : List (List ℕ) → Bool = λ fields. group_among workers fields == k in
@@ -46,7 +46,7 @@ other_text workers above x k ne =
     ap records_text (filter-append p above (x ∷ []) ∙ (ap (λ (b : Bool). filter p above ++ cond b (x ∷ []) []) other ∙ append-nil (filter p above)))
 
 -- a record is appended to the text of its group
-pub one_sorted : (workers : List Spelled) (above : List (List (List ℕ))) (x : List (List ℕ)) → group_among workers x < 3 + length workers
+pub one_sorted : (workers : List SpelledWorker) (above : List (List (List ℕ))) (x : List (List ℕ)) → group_among workers x < 3 + length workers
     → group_texts workers (above ++ x ∷ [])
     ≡ set (group_texts workers above) (group_among workers x) (get_or (group_texts workers above) (group_among workers x) [] ++ record_text x)
 one_sorted workers above x lt =
@@ -56,7 +56,7 @@ one_sorted workers above x lt =
     map_set (group_text workers above) (group_text workers (above ++ x ∷ [])) 0 n g g (get_or (group_texts workers above) g [] ++ record_text x) lt (omega arith)
     (own_text workers above x ∙ ap (λ (t : List ℕ). t ++ record_text x) (sym old)) (other_text workers above x)
 
-pub texts_long : (workers : List Spelled) (above : List (List (List ℕ))) → length (group_texts workers above) ≡ 3 + length workers
+pub texts_long : (workers : List SpelledWorker) (above : List (List (List ℕ))) → length (group_texts workers above) ≡ 3 + length workers
 texts_long workers above = length-map-range_with_len (group_text workers above) 0 (3 + length workers)
 
 pub get_or-any : (xs : List (List ℕ)) (i : ℕ) (d e : List ℕ) → i < length xs → get_or xs i d ≡ get_or xs i e
@@ -64,7 +64,7 @@ get_or-any [] i d e lt = absurd (omega arith)
 get_or-any (x ∷ xs) zero d e lt = refl
 get_or-any (x ∷ xs) (suc i) d e lt = get_or-any xs i d e (omega arith)
 
-pub set_sorted : (workers : List Spelled) (above : List (List (List ℕ))) (x : List (List ℕ)) (texts : List (List ℕ)) (g : ℕ) (part new : List ℕ)
+pub set_sorted : (workers : List SpelledWorker) (above : List (List (List ℕ))) (x : List (List ℕ)) (texts : List (List ℕ)) (g : ℕ) (part new : List ℕ)
     → texts ≡ group_texts workers above → g ≡ group_among workers x → g < 3 + length workers → part ≡ get_or texts g part → new ≡ part ++ record_text x
     → set texts g new ≡ group_texts workers (above ++ x ∷ [])
 set_sorted workers above x texts g part new same own lt read added =
@@ -77,7 +77,7 @@ set_sorted workers above x texts g part new same own lt read added =
 -- ---- sorting them in turn
 
 -- These records were sorted, and the others are left.
-pub record AreSortedTo (workers : List Spelled) (stop : ℕ) (records left : List (List (List ℕ))) (number : ℕ) (texts : List (List ℕ)) : Type 0 where
+pub record AreSortedTo (workers : List SpelledWorker) (stop : ℕ) (records left : List (List (List ℕ))) (number : ℕ) (texts : List (List ℕ)) : Type 0 where
   pub above : List (List (List ℕ))
   pub records_are : records ≡ above ++ left
   pub number_is : number ≡ length above
@@ -87,12 +87,12 @@ closed_none : (stop : ℕ) → closed_from stop [] ≡ []
 closed_none zero = refl
 closed_none (suc stop) = refl
 
-pub sorted_none : (workers : List Spelled) (stop : ℕ) (records : List (List (List ℕ))) (texts : List (List ℕ)) → texts ≡ group_texts workers []
+pub sorted_none : (workers : List SpelledWorker) (stop : ℕ) (records : List (List (List ℕ))) (texts : List (List ℕ)) → texts ≡ group_texts workers []
     → AreSortedTo workers stop records records 0 texts
 sorted_none workers stop records texts e =
     record { above = []; records_are = refl; number_is = refl; texts_are = e ∙ ap (group_texts workers) (sym (closed_none stop)) }
 
-sorted_by : (workers : List Spelled) (stop : ℕ) (records left : List (List (List ℕ))) (x : List (List ℕ)) (number : ℕ) (texts new : List (List ℕ))
+sorted_by : (workers : List SpelledWorker) (stop : ℕ) (records left : List (List (List ℕ))) (x : List (List ℕ)) (number : ℕ) (texts new : List (List ℕ))
     → (at : AreSortedTo workers stop records (x ∷ left) number texts) → new ≡ group_texts workers (closed_from stop (at.above ++ x ∷ []))
     → AreSortedTo workers stop records left (number + 1) new
 sorted_by workers stop records left x number texts new at e = record {
@@ -102,7 +102,7 @@ sorted_by workers stop records left x number texts new at e = record {
   texts_are = e;
 }
 
-pub sorted_late : (workers : List Spelled) (stop : ℕ) (records left : List (List (List ℕ))) (x : List (List ℕ)) (number : ℕ) (texts new : List (List ℕ))
+pub sorted_late : (workers : List SpelledWorker) (stop : ℕ) (records left : List (List (List ℕ))) (x : List (List ℕ)) (number : ℕ) (texts new : List (List ℕ))
     → AreSortedTo workers stop records (x ∷ left) number texts → stop ≤ number
     → ((above : List (List (List ℕ))) → texts ≡ group_texts workers above → new ≡ group_texts workers (above ++ x ∷ []))
     → AreSortedTo workers stop records left (number + 1) new
@@ -111,7 +111,7 @@ sorted_late workers stop records left x number texts new at le add =
     sorted_by workers stop records left x number texts new at
     (add (closed_from stop at.above) at.texts_are ∙ ap (group_texts workers) (sym (closed_from-push stop at.above x (omega arith))))
 
-pub sorted_open : (workers : List Spelled) (stop : ℕ) (records left : List (List (List ℕ))) (x : List (List ℕ)) (number : ℕ) (texts new : List (List ℕ))
+pub sorted_open : (workers : List SpelledWorker) (stop : ℕ) (records left : List (List (List ℕ))) (x : List (List ℕ)) (number : ℕ) (texts new : List (List ℕ))
     → AreSortedTo workers stop records (x ∷ left) number texts → closes x ≡ false
     → ((above : List (List (List ℕ))) → texts ≡ group_texts workers above → new ≡ group_texts workers (above ++ x ∷ []))
     → AreSortedTo workers stop records left (number + 1) new
@@ -119,7 +119,7 @@ sorted_open workers stop records left x number texts new at isnt add =
     sorted_by workers stop records left x number texts new at
     (add (closed_from stop at.above) at.texts_are ∙ ap (group_texts workers) (sym (closed_from-open stop at.above x isnt)))
 
-pub sorted_skip : (workers : List Spelled) (stop : ℕ) (records left : List (List (List ℕ))) (x : List (List ℕ)) (number : ℕ) (texts : List (List ℕ))
+pub sorted_skip : (workers : List SpelledWorker) (stop : ℕ) (records left : List (List (List ℕ))) (x : List (List ℕ)) (number : ℕ) (texts : List (List ℕ))
     → AreSortedTo workers stop records (x ∷ left) number texts → number < stop → closes x ≡ true
     → AreSortedTo workers stop records left (number + 1) texts
 sorted_skip workers stop records left x number texts at lt is =
@@ -127,7 +127,7 @@ sorted_skip workers stop records left x number texts at lt is =
     sorted_by workers stop records left x number texts texts at
     (at.texts_are ∙ ap (group_texts workers) (sym (closed_from-skip stop at.above x (omega arith) is)))
 
-pub sorted_all : (workers : List Spelled) (stop : ℕ) (records : List (List (List ℕ))) (number : ℕ) (texts : List (List ℕ)) → AreSortedTo workers stop records [] number texts
+pub sorted_all : (workers : List SpelledWorker) (stop : ℕ) (records : List (List (List ℕ))) (number : ℕ) (texts : List (List ℕ)) → AreSortedTo workers stop records [] number texts
     → texts ≡ group_texts workers (closed_from stop records)
 sorted_all workers stop records number texts at =
     at.texts_are ∙ ap (λ (l : List (List (List ℕ))). group_texts workers (closed_from stop l)) (sym (at.records_are ∙ append-nil at.above))
@@ -144,13 +144,13 @@ pub one_joined : (now new part end : List ℕ) (rest : List (List ℕ)) → new 
 one_joined now new part end rest added before =
     ap (λ (t : List ℕ). t ++ concat rest) added ∙ (append_assoc now part (concat rest) ∙ before)
 
-number_same : (fields : List (List ℕ)) (workers : List Named) → number_spelled (map spelled workers) (field 1 fields) (field 2 fields) ≡ position_or_len (names fields) workers
+number_same : (fields : List (List ℕ)) (workers : List Named) → number_spelled (map spelled workers) (field 1 fields) (field 2 fields) ≡ position_or_len (is_of_worker fields) workers
 number_same fields [] = refl
-number_same fields (x ∷ workers) = ap (λ (n : ℕ). cond (not (names fields x)) (1 + n) 0) (number_same fields workers)
+number_same fields (x ∷ workers) = ap (λ (n : ℕ). cond (not (is_of_worker fields x)) (1 + n) 0) (number_same fields workers)
 
-pub group_same : (job : JobView) (fields : List (List ℕ)) → group_among (workers_spelled job) fields ≡ group_of job fields
+pub group_same : (job : JobView) (fields : List (List ℕ)) → group_among (workers_spelled job) fields ≡ record_group job fields
 group_same job fields =
-    ap (λ (n : ℕ). if begins_with (codes "refused") fields then 0 else (if is_step fields then 1 else 2 + n)) (number_same fields (named_workers job.nodes))
+    ap (λ (n : ℕ). if begins_with (codes "refused") fields then 0 else (if tells_step fields then 1 else 2 + n)) (number_same fields (named_workers job.nodes))
 
 filter_same : {A : Type 0} (p q : A → Bool) → ((x : A) → p x ≡ q x) → (xs : List A) → filter p xs ≡ filter q xs
 filter_same p q same [] = refl
@@ -168,8 +168,8 @@ mapped_long (x ∷ workers) = ap suc (mapped_long workers)
 -- the texts of the groups are the text of the records by their groups
 pub texts_by_group : (job : JobView) (records : List (List (List ℕ))) → concat (group_texts (workers_spelled job) records) ≡ records_text (by_group job records)
 texts_by_group job records =
-    let workers : List Spelled = workers_spelled job in
+    let workers : List SpelledWorker = workers_spelled job in
     ap (λ n. concat (map (group_text workers records) (range_with_len 0 (3 + n)))) (mapped_long (named_workers job.nodes))
     ∙ joined_texts (group_text workers records) (in_group job records) (λ k.
-    ap records_text (filter_same (λ fields. group_among workers fields == k) (λ fields. group_of job fields == k) (λ fields. ap (λ g. g == k) (group_same job fields)) records))
+    ap records_text (filter_same (λ fields. group_among workers fields == k) (λ fields. record_group job fields == k) (λ fields. ap (λ g. g == k) (group_same job fields)) records))
     (range_with_len 0 (group_count job))

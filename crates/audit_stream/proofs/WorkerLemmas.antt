@@ -12,7 +12,7 @@ use Rattle.jobs.specs.Nodes.{workers_of}
 use Rattle.jobs.specs.declared.func.NodeDef.{NodeDef}
 use Rattle.audit_laws.specs.Names.{Named, named_at, named_workers}
 use Rattle.audit_laws.proofs.NamedLemmas.{are_told}
-use Rattle.audit_stream.specs.Sorting.{AreDistinct, Spelled, is_spelled, number_spelled, spelled, workers_spelled}
+use Rattle.audit_stream.specs.Sorting.{AreDistinct, SpelledWorker, is_spelled, number_spelled, spelled, workers_spelled}
 
 -- ---- making them
 
@@ -25,30 +25,30 @@ named_at-push node place (suc n) =
     let e : place + 1 + n ≡ place + suc n = omega arith in
     ap (λ (l : List Named). named_as node place ∷ l) (named_at-push node (place + 1) n ∙ ap (λ p. named_at node (place + 1) n ++ named_as node p ∷ []) e)
 
-pub one_spelled : (start before new : List Spelled) (node : List ℕ) (n : ℕ) → before ≡ start ++ map spelled (named_at node 0 n)
+pub one_spelled : (start before new : List SpelledWorker) (node : List ℕ) (n : ℕ) → before ≡ start ++ map spelled (named_at node 0 n)
     → new ≡ before ++ (node, decimal n) ∷ [] → new ≡ start ++ map spelled (named_at node 0 (n + 1))
 one_spelled start before new node n a b =
     let e : n + 1 ≡ suc n = omega arith in
     let z : 0 + n ≡ n = omega arith in
     let all : named_at node 0 (n + 1) ≡ named_at node 0 n ++ named_as node n ∷ [] =
     ap (named_at node 0) e ∙ (named_at-push node 0 n ∙ ap (λ p. named_at node 0 n ++ named_as node p ∷ []) z) in
-    b ∙ (ap (λ (l : List Spelled). l ++ (node, decimal n) ∷ []) a
+    b ∙ (ap (λ (l : List SpelledWorker). l ++ (node, decimal n) ∷ []) a
     ∙ (append_assoc start (map spelled (named_at node 0 n)) ((node, decimal n) ∷ [])
-    ∙ (ap (λ (l : List Spelled). start ++ l) (sym (map-append spelled (named_at node 0 n) (named_as node n ∷ [])))
+    ∙ (ap (λ (l : List SpelledWorker). start ++ l) (sym (map-append spelled (named_at node 0 n) (named_as node n ∷ [])))
     ∙ ap (λ (l : List Named). start ++ map spelled l) (sym all))))
 
-pub node_spelled : (nodes : List NodeDef) (i : ℕ) (def : NodeDef) (before new : List Spelled) → i < length nodes → def ≡ get_or nodes i def
+pub node_spelled : (nodes : List NodeDef) (i : ℕ) (def : NodeDef) (before new : List SpelledWorker) → i < length nodes → def ≡ get_or nodes i def
     → before ≡ map spelled (named_workers (take i nodes)) → new ≡ before ++ map spelled (named_at def.name 0 (workers_of def))
     → new ≡ map spelled (named_workers (take (i + 1) nodes))
 node_spelled nodes i def before new lt at a b =
     let f : NodeDef → List Named = λ def. named_at def.name 0 (workers_of def) in
     let front : List NodeDef = take i nodes in
-    b ∙ (ap (λ (l : List Spelled). l ++ map spelled (f def)) a
+    b ∙ (ap (λ (l : List SpelledWorker). l ++ map spelled (f def)) a
     ∙ (sym (map-append spelled (named_workers front) (f def))
     ∙ (ap (map spelled) (flat_map_more f [] front def)
     ∙ ap (λ (l : List NodeDef). map spelled (named_workers l)) (ap (λ (d : NodeDef). front ++ d ∷ []) at ∙ sym (take_more nodes i def lt)))))
 
-pub all_spelled : (nodes : List NodeDef) (i : ℕ) (workers : List Spelled) → length nodes ≤ i → workers ≡ map spelled (named_workers (take i nodes))
+pub all_spelled : (nodes : List NodeDef) (i : ℕ) (workers : List SpelledWorker) → length nodes ≤ i → workers ≡ map spelled (named_workers (take i nodes))
     → workers ≡ map spelled (named_workers nodes)
 all_spelled nodes i workers le e = e ∙ ap (λ (l : List NodeDef). map spelled (named_workers l)) (take_all i nodes le)
 
@@ -87,13 +87,13 @@ not_true true ne = absurd (ne refl)
 not_true false ne = refl
 
 -- a worker is told by what spells it
-spelled_so : (node place : List ℕ) (worker : Spelled) → is_spelled node place worker ≡ true → worker ≡ (node, place)
+spelled_so : (node place : List ℕ) (worker : SpelledWorker) → is_spelled node place worker ≡ true → worker ≡ (node, place)
 spelled_so node place worker e =
     let both = both_true (bytes_eq worker.0 node) (bytes_eq worker.1 place) e in
     ap₂ (λ (a b : List ℕ). (a, b)) ((bytes_eq-Decides worker.0 node).0 both.0) ((bytes_eq-Decides worker.1 place).0 both.1)
 
 -- the one worker that is spelled so is the first
-pub number_here : (workers : List Spelled) → AreDistinct workers → (node place : List ℕ) (i : ℕ) (worker : Spelled) → slice_get workers i ≡ Some worker
+pub number_here : (workers : List SpelledWorker) → AreDistinct workers → (node place : List ℕ) (i : ℕ) (worker : SpelledWorker) → slice_get workers i ≡ Some worker
     → is_spelled node place worker ≡ true → number_spelled workers node place ≡ i
 number_here workers distinct node place i worker there is =
     position_here (is_spelled node place) workers i worker there is (λ k y lt at.
@@ -103,9 +103,9 @@ number_here workers distinct node place i worker there is =
     omega arith))
 
 -- no worker is spelled so
-pub number_none : (workers : List Spelled) (node place : List ℕ) (near : ℕ)
-    → ((k : ℕ) (worker : Spelled) → near ≤ k → k < length workers → slice_get workers k ≡ Some worker → is_spelled node place worker ≡ true → ⊥)
-    → ((k : ℕ) (worker : Spelled) → 0 ≤ k → k < near → slice_get workers k ≡ Some worker → is_spelled node place worker ≡ true → ⊥)
+pub number_none : (workers : List SpelledWorker) (node place : List ℕ) (near : ℕ)
+    → ((k : ℕ) (worker : SpelledWorker) → near ≤ k → k < length workers → slice_get workers k ≡ Some worker → is_spelled node place worker ≡ true → ⊥)
+    → ((k : ℕ) (worker : SpelledWorker) → 0 ≤ k → k < near → slice_get workers k ≡ Some worker → is_spelled node place worker ≡ true → ⊥)
     → number_spelled workers node place ≡ length workers
 number_none workers node place near later earlier =
     position_none (is_spelled node place) workers (λ k y at.
@@ -114,14 +114,14 @@ number_none workers node place near later earlier =
       | inr le ↦ later k y le (within workers k y at) at so
     ]))
   where
-    within : (xs : List Spelled) (k : ℕ) (y : Spelled) → slice_get xs k ≡ Some y → k < length xs
+    within : (xs : List SpelledWorker) (k : ℕ) (y : SpelledWorker) → slice_get xs k ≡ Some y → k < length xs
     within [] k y at = absurd (cc at)
     within (x ∷ xs) zero y at = omega arith
     within (x ∷ xs) (suc k) y at = omega (arith, within xs k y at)
 
 -- ---- no two are spelled alike
 
-from_mapped : (o : Option Named) (worker : Spelled) → option_map spelled o ≡ Some worker → (x : Named) × (o ≡ Some x) × (spelled x ≡ worker)
+from_mapped : (o : Option Named) (worker : SpelledWorker) → option_map spelled o ≡ Some worker → (x : Named) × (o ≡ Some x) × (spelled x ≡ worker)
 from_mapped None worker e = absurd (cc e)
 from_mapped (Some x) worker e = (x, refl, same_Some (spelled x) worker e)
 
@@ -131,4 +131,4 @@ are_distinct job law i k worker g h =
     let x = from_mapped (slice_get all i) worker (sym (slice_get-map spelled all i) ∙ g) in
     let y = from_mapped (slice_get all k) worker (sym (slice_get-map spelled all k) ∙ h) in
     let same : spelled x.0 ≡ spelled y.0 = x.2 ∙ sym y.2 in
-    are_told job law i k x.0 y.0 x.1 y.1 (ap (λ (w : Spelled). w.0) same) (ap (λ (w : Spelled). w.1) same)
+    are_told job law i k x.0 y.0 x.1 y.1 (ap (λ (w : SpelledWorker). w.0) same) (ap (λ (w : SpelledWorker). w.1) same)

@@ -2,14 +2,15 @@
 use Rattle.std.specs.Prelude.{◌+◌, ◌==◌, ◌&&◌, ◌||◌, ℕ, List, [], ◌∷◌, if◌then◌else◌, not}
 use Rattle.std.specs.List.{flat_map, range_with_len}
 use Rattle.jobs.specs.JobView.{JobView}
-use Rattle.audit_stream.specs.Together.{group_count, group_of, has_stop, is_end, is_stop}
+use Rattle.audit_stream.specs.Together.{group_count, record_group, has_stop, tells_end, tells_stop}
 
 -- the places of the records of a group, but for each stop or end that a stop follows; the first
 -- record has this place
 abbrev pub last_places : JobView → ℕ → ℕ → List (List (List ℕ)) → List ℕ
 last_places job group place [] = []
 last_places job group place (fields ∷ later) =
-    if ((is_stop fields || is_end fields) && has_stop later) || not (group_of job fields == group)
+    if ((tells_stop fields || tells_end fields) && has_stop later)
+    || not (record_group job fields == group)
     then last_places job group (place + 1) later
     else place ∷ last_places job group (place + 1) later
 

@@ -2,8 +2,8 @@
 ghost use Rattle.std.specs.Prelude.{◌≡◌};
 ghost use Rattle.csv.specs.Records.{fields_of};
 ghost use Rattle.audit_stream.specs.Sorting.{closes as closes_in};
-ghost use Rattle.audit_stream.specs.Together.{begins_with, is_step as is_step_in};
-ghost use Rattle.audit_stream.specs.Together.{is_stop as is_stop_in};
+ghost use Rattle.audit_stream.specs.Together.{begins_with, tells_step as is_step_in};
+ghost use Rattle.audit_stream.specs.Together.{tells_stop as is_stop_in};
 
 use crate::writing::cell;
 use csv::ByteRecord;

@@ -4,7 +4,7 @@ ghost use Rattle.std.specs.Prelude.{OnOk, get_or, map};
 ghost use Rattle.std.specs.List.{concat};
 ghost use Rattle.jobs.specs.Job.{job_view};
 ghost use Rattle.sink_journal.specs.Audit.{audit_header};
-ghost use Rattle.audit_laws.specs.Fits.{records_of};
+ghost use Rattle.audit_laws.specs.Fits.{csv_records};
 ghost use Rattle.audit_laws.specs.Verdict.{HasNoHeader};
 ghost use Rattle.audit_stream.specs.Places.{places_together};
 ghost use Rattle.audit_stream.specs.Sorting.{AreDistinct, place_lists, stop_place};
@@ -32,11 +32,11 @@ use tuple_trace::{Items, NoMemory};
 /// Only out of memory.
 pub fn record_places(alloc: Global, job: &Job, bytes: &[u8]) -> Result<Option<Items<u64>>, NoMemory>
     ensures places { IfOk result (λ found. IfSome found (λ places.
-        places ≡ places_together (job_view job.now) (records_of bytes.now))) }
+        places ≡ places_together (job_view job.now) (csv_records bytes.now))) }
     ensures records { IfOk result (λ found. IfSome found (λ places.
-        map (λ place. get_or (records_of bytes.now) place []) places
-        ≡ together (job_view job.now) (records_of bytes.now))) }
-    ensures none { IfOk result (λ found. IfNone found (HasNoHeader (records_of bytes.now))) }
+        map (λ place. get_or (csv_records bytes.now) place []) places
+        ≡ together (job_view job.now) (csv_records bytes.now))) }
+    ensures none { IfOk result (λ found. IfNone found (HasNoHeader (csv_records bytes.now))) }
 {
     let Some(stop) = text_stop(alloc, bytes)? else {
         return Ok(None);
@@ -47,10 +47,10 @@ pub fn record_places(alloc: Global, job: &Job, bytes: &[u8]) -> Result<Option<It
 
 // The same, of a text that begins with the header. Its last stop is known.
 fn places_past(alloc: Global, job: &Job, bytes: &[u8], stop: u64) -> Result<Items<u64>, NoMemory>
-    requires { (body : List (List (List ℕ))) × (records_of bytes.now ≡ audit_header ∷ body)
+    requires { (body : List (List (List ℕ))) × (csv_records bytes.now ≡ audit_header ∷ body)
         × (stop ≡ stop_place body) }
     ensures { IfOk result (λ places.
-        places ≡ places_together (job_view job.now) (records_of bytes.now)) }
+        places ≡ places_together (job_view job.now) (csv_records bytes.now)) }
 {
     let mut records = TextRecords::of(alloc, bytes);
     let mut cells = ByteRecord::new(alloc);

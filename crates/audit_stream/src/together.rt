@@ -4,7 +4,7 @@ ghost use Rattle.std.specs.Prelude.{IsTrue, List, get_or};
 ghost use Rattle.csv.specs.Records.{fields_of};
 ghost use Rattle.jobs.specs.Job.{job_view};
 ghost use Rattle.sink_journal.specs.Audit.{audit_header};
-ghost use Rattle.audit_laws.specs.Fits.{records_of};
+ghost use Rattle.audit_laws.specs.Fits.{csv_records};
 ghost use Rattle.audit_laws.specs.Verdict.{HasNoHeader};
 ghost use Rattle.audit_stream.specs.Sorting.{stop_place};
 ghost use Rattle.audit_stream.specs.Together.{together};
@@ -33,10 +33,10 @@ use tuple_trace::{Bytes, NoMemory};
 /// Only out of memory.
 pub fn put_together(alloc: Global, job: &Job, bytes: &[u8]) -> Result<Option<Bytes>, NoMemory>
     ensures some { IfOk result (λ found. IfSome found (λ text.
-        records_of text ≡ together (job_view job.now) (records_of bytes.now))) }
+        csv_records text ≡ together (job_view job.now) (csv_records bytes.now))) }
     ensures header { IfOk result (λ found. IfSome found (λ _. (body : List (List (List ℕ))) ×
-        (records_of bytes.now ≡ audit_header ∷ body))) }
-    ensures none { IfOk result (λ found. IfNone found (HasNoHeader (records_of bytes.now))) }
+        (csv_records bytes.now ≡ audit_header ∷ body))) }
+    ensures none { IfOk result (λ found. IfNone found (HasNoHeader (csv_records bytes.now))) }
 {
     let Some(stop) = text_stop(alloc, bytes)? else {
         return Ok(None);
@@ -47,10 +47,10 @@ pub fn put_together(alloc: Global, job: &Job, bytes: &[u8]) -> Result<Option<Byt
 
 // The same, of a text that begins with the header. Its last stop is known.
 fn put_past(alloc: Global, job: &Job, bytes: &[u8], stop: u64) -> Result<Bytes, NoMemory>
-    requires { (body : List (List (List ℕ))) × (records_of bytes.now ≡ audit_header ∷ body)
+    requires { (body : List (List (List ℕ))) × (csv_records bytes.now ≡ audit_header ∷ body)
         × (stop ≡ stop_place body) }
     ensures { IfOk result (λ text.
-        records_of text ≡ together (job_view job.now) (records_of bytes.now)) }
+        csv_records text ≡ together (job_view job.now) (csv_records bytes.now)) }
 {
     let mut records = TextRecords::of(alloc, bytes);
     let mut cells = ByteRecord::new(alloc);
@@ -61,8 +61,8 @@ fn put_past(alloc: Global, job: &Job, bytes: &[u8], stop: u64) -> Result<Bytes, 
 /// Returns `None` if the text doesn't begin with the header.
 pub(crate) fn text_stop(alloc: Global, bytes: &[u8]) -> Result<Option<u64>, NoMemory>
     ensures some { IfOk result (λ found. IfSome found (λ stop. (body : List (List (List ℕ))) ×
-        (records_of bytes.now ≡ audit_header ∷ body) × (stop ≡ stop_place body))) }
-    ensures none { IfOk result (λ found. IfNone found (HasNoHeader (records_of bytes.now))) }
+        (csv_records bytes.now ≡ audit_header ∷ body) × (stop ≡ stop_place body))) }
+    ensures none { IfOk result (λ found. IfNone found (HasNoHeader (csv_records bytes.now))) }
 {
     let mut records = TextRecords::of(alloc, bytes);
     let mut cells = ByteRecord::new(alloc);

@@ -4,7 +4,7 @@ ghost use Rattle.std.specs.Prelude.{IsTrue, OnOk, Some, decimal, length, map, sl
 ghost use Rattle.jobs.specs.Job.{job_view};
 ghost use Rattle.jobs.specs.Nodes.{workers_of};
 ghost use Rattle.audit_laws.specs.Names.{named_at};
-ghost use Rattle.audit_stream.specs.Sorting.{AreDistinct, Spelled as SpelledIs, spelled};
+ghost use Rattle.audit_stream.specs.Sorting.{AreDistinct, SpelledWorker as SpelledIs, spelled};
 ghost use Rattle.audit_stream.specs.Sorting.{is_spelled as is_spelled_by, number_spelled};
 ghost use Rattle.audit_stream.specs.Sorting.{workers_spelled};
 

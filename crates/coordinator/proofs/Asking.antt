@@ -15,7 +15,7 @@ use Rattle.flow_model.specs.Planned.{IsPlanned}
 use Rattle.flow_model.specs.Workers.{workers_in}
 use Rattle.flow_model.proofs.WorkerLemmas.{item_at}
 use Rattle.coordinator.specs.Boxes.{AreCountedWith, ArePosted, AreReady, IsUnready, LastAtLeast, MayPost, SameBoxes, SameLoads, SamePosts}
-use Rattle.coordinator.specs.Numbers.{covered_to, node_at, node_in, number_of, posted_number}
+use Rattle.coordinator.specs.Numbers.{covered_to, node_at, node_in, covering_count, posted_number}
 use Rattle.coordinator.proofs.ListLemmas.{Pairs, also_there, get_set_other, get_set_same, here_or_not, pairs_map, pairs_set, same_some}
 
 -- ---- numbers
@@ -49,20 +49,20 @@ covered_grows setup node a (suc b) le = elim (cases_lt b a) [
 ]
 
 -- the numbers go on by one where a worker is covered
-pub number_covered : (setup : SetupView) (from w r n : ℕ) → from ≤ r → covers setup (suc r) (node_at setup w) ≡ true → n ≡ number_of setup from w r → n + 1 ≡ number_of setup from w (suc r)
+pub number_covered : (setup : SetupView) (from w r n : ℕ) → from ≤ r → covers setup (suc r) (node_at setup w) ≡ true → n ≡ covering_count setup from w r → n + 1 ≡ covering_count setup from w (suc r)
 number_covered setup from w r n le e is =
     let grows = covered_grows setup (node_at setup w) from r le in
     let next : covered_to setup (node_at setup w) (suc r) ≡ suc (covered_to setup (node_at setup w) r) =
     ap (λ b. cond b (suc (covered_to setup (node_at setup w) r)) (covered_to setup (node_at setup w) r)) e in
     omega (arith, grows, next, is)
 
-pub number_uncovered : (setup : SetupView) (from w r n : ℕ) → covers setup (suc r) (node_at setup w) ≡ false → n ≡ number_of setup from w r → n ≡ number_of setup from w (suc r)
+pub number_uncovered : (setup : SetupView) (from w r n : ℕ) → covers setup (suc r) (node_at setup w) ≡ false → n ≡ covering_count setup from w r → n ≡ covering_count setup from w (suc r)
 number_uncovered setup from w r n e is =
     let next : covered_to setup (node_at setup w) (suc r) ≡ covered_to setup (node_at setup w) r =
     ap (λ b. cond b (suc (covered_to setup (node_at setup w) r)) (covered_to setup (node_at setup w) r)) e in
     omega (arith, next, is)
 
-pub number_grows : (setup : SetupView) (from w r : ℕ) → number_of setup from w r ≤ number_of setup from w (suc r)
+pub number_grows : (setup : SetupView) (from w r : ℕ) → covering_count setup from w r ≤ covering_count setup from w (suc r)
 number_grows setup from w r = let s = covered_rises setup (node_at setup w) r in omega (arith, s)
 
 -- ---- the last post
@@ -72,15 +72,15 @@ pub none_posted : (setup : SetupView) (turned w r : ℕ) → r ≤ turned → po
 none_posted setup turned w zero le = refl
 none_posted setup turned w (suc r) le = go (is_head setup (suc r) (node_at setup w)) (none_posted setup turned w r (omega (arith, le)))
   where
-    go : (b : Bool) → posted_number setup turned w r ≡ 0 → cond b (number_of setup turned w (suc r)) (posted_number setup turned w r) ≡ 0
+    go : (b : Bool) → posted_number setup turned w r ≡ 0 → cond b (covering_count setup turned w (suc r)) (posted_number setup turned w r) ≡ 0
     go true h = let grows = covered_grows setup (node_at setup w) (suc r) turned le in omega (arith, grows)
     go false h = h
 
-pub posted_within : (setup : SetupView) (turned w r : ℕ) → posted_number setup turned w r ≤ number_of setup turned w r
+pub posted_within : (setup : SetupView) (turned w r : ℕ) → posted_number setup turned w r ≤ covering_count setup turned w r
 posted_within setup turned w zero = omega arith
 posted_within setup turned w (suc r) = go (is_head setup (suc r) (node_at setup w)) (posted_within setup turned w r)
   where
-    go : (b : Bool) → posted_number setup turned w r ≤ number_of setup turned w r → cond b (number_of setup turned w (suc r)) (posted_number setup turned w r) ≤ number_of setup turned w (suc r)
+    go : (b : Bool) → posted_number setup turned w r ≤ covering_count setup turned w r → cond b (covering_count setup turned w (suc r)) (posted_number setup turned w r) ≤ covering_count setup turned w (suc r)
     go true h = omega arith
     go false h = let grows = number_grows setup turned w r in omega (arith, h, grows)
 
@@ -111,7 +111,7 @@ covered_within setup node (suc r) = go (covers setup (suc r) node) (covered_with
     go true h = omega (arith, h)
     go false h = omega (arith, h)
 
-pub number_within : (setup : SetupView) (from w r : ℕ) → number_of setup from w r ≤ r
+pub number_within : (setup : SetupView) (from w r : ℕ) → covering_count setup from w r ≤ r
 number_within setup from w r = let h = covered_within setup (node_at setup w) r in omega (arith, h)
 
 -- ---- asking

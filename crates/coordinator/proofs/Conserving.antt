@@ -19,12 +19,12 @@ use Rattle.tuple_trace.specs.declared.tuple.Item.{Item}
 use Rattle.tuple_trace.specs.declared.tuple.Item.TheVariants.{Carry, Last, Mark}
 use Rattle.flow_model.specs.Begin.{Begin, view_at}
 use Rattle.flow_model.specs.Covers.{covers_edge, plan_of}
-use Rattle.flow_model.specs.Feeding.{fed, fed_put, fed_puts, row_at}
+use Rattle.flow_model.specs.Feeding.{fed, fed_put, fed_puts, row_numbered}
 use Rattle.flow_model.specs.Lanes.{is_same_lane, lanes, lanes_in, lanes_out}
 use Rattle.flow_model.specs.Law.{IsExecution, Progress, Duties, after_entry, initial, progress_after}
 use Rattle.flow_model.specs.SetupView.{SetupView, Worker}
 use Rattle.flow_model.specs.declared.topology.Lane.{Lane}
-use Rattle.flow_model.specs.Replay.{StateView, Put, after, came_in, item_on, items_on, marker_by, put_on_each, put_out, puts, sent, shown, visit_at}
+use Rattle.flow_model.specs.Replay.{StateView, Put, after, came_in, item_on, items_on, marker_by, put_on_each, put_out, puts, items_sent, shown, visit_at}
 use Rattle.flow_model.specs.Run.{Ran, put_by, sent_by}
 use Rattle.flow_model.specs.Duties.{duties}
 use Rattle.flow_model.specs.Workers.{workers_in}
@@ -117,37 +117,37 @@ just_all : (a b : ℕ) → (a + 1 == b) ≡ true → b ≤ a + 1
 just_all a b e = grind (arith, nat_tests)
 
 after_end : (setup : SetupView) (post : Worker) (lane : Lane) (at : Duties) (p : Progress) (view : StateView) (journal : List Entry) → IsExecution at p journal → (p.ended ≡ [] → ⊥)
-    → length (lanes_in setup.job post.number) ≤ view.ended → sent setup post view lane journal ≡ []
+    → length (lanes_in setup.job post.number) ≤ view.ended → items_sent setup post view lane journal ≡ []
 after_end setup post lane at p view [] f n le = refl
 after_end setup post lane at p view (Met l t ∷ journal) f n le = absurd (n f.0.2)
 after_end setup post lane at p view (Marked l r ∷ journal) f n le = absurd (n f.0.3)
 after_end setup post lane at p view (Turned r ∷ journal) f n le = absurd (n f.0.2)
 after_end setup post lane at p view (Ended l ∷ journal) f n le =
     let e : (view.ended + 1 == length (lanes_in setup.job post.number)) ≡ false = too_many view.ended (length (lanes_in setup.job post.number)) le in
-    ap (λ b. items_on lane (cond b (put_on_each Last (lanes_out setup.job post.number)) []) ++ sent setup post (after setup post view (Ended l)) lane journal) e
+    ap (λ b. items_on lane (cond b (put_on_each Last (lanes_out setup.job post.number)) []) ++ items_sent setup post (after setup post view (Ended l)) lane journal) e
     ∙ after_end setup post lane at (after_entry p (Ended l)) (after setup post view (Ended l)) journal f.1 (λ h. absurd (cc)) (omega (arith, le))
 
 sent_last : (setup : SetupView) (post : Worker) (lane : Lane) (at : Duties) (p : Progress) (view : StateView) (journal : List Entry) → IsIn lane (lanes_out setup.job post.number) → IsExecution at p journal
-    → LastIsLast (sent setup post view lane journal)
+    → LastIsLast (items_sent setup post view lane journal)
 sent_last setup post lane at p view [] out f = tt
 sent_last setup post lane at p view (Met l t ∷ journal) out f =
-    open_append (items_on lane (puts setup post view (Met l t))) (sent setup post (after setup post view (Met l t)) lane journal)
+    open_append (items_on lane (puts setup post view (Met l t))) (items_sent setup post (after setup post view (Met l t)) lane journal)
     (tuples_go_on setup.job post lane (step setup.job (visit_at post view) view.func view.counts t).1)
     (sent_last setup post lane at p (after setup post view (Met l t)) journal out f.1)
 sent_last setup post lane at p view (Marked l r ∷ journal) out f = sent_last setup post lane at (after_entry p (Marked l r)) view journal out f.1
 sent_last setup post lane at p view (Turned r ∷ journal) out f =
-    open_append (items_on lane (puts setup post view (Turned r))) (sent setup post (after setup post view (Turned r)) lane journal)
+    open_append (items_on lane (puts setup post view (Turned r))) (items_sent setup post (after setup post view (Turned r)) lane journal)
     (markers_go_on lane r (plan_of setup r) (filter (λ (k : Lane). covers_edge setup r k.edge) (lanes_out setup.job post.number)))
     (sent_last setup post lane at (after_entry p (Turned r)) (after setup post view (Turned r)) journal out f.1)
 sent_last setup post lane at p view (Ended l ∷ journal) out f =
     go (view.ended + 1 == length (lanes_in setup.job post.number)) refl (sent_last setup post lane at (after_entry p (Ended l)) (after setup post view (Ended l)) journal out f.1)
     (after_end setup post lane at (after_entry p (Ended l)) (after setup post view (Ended l)) journal f.1 (λ h. absurd (cc)))
   where
-    go : (b : Bool) → (view.ended + 1 == length (lanes_in setup.job post.number)) ≡ b → LastIsLast (sent setup post (after setup post view (Ended l)) lane journal)
-        → (length (lanes_in setup.job post.number) ≤ view.ended + 1 → sent setup post (after setup post view (Ended l)) lane journal ≡ [])
-        → LastIsLast (items_on lane (cond b (put_on_each Last (lanes_out setup.job post.number)) []) ++ sent setup post (after setup post view (Ended l)) lane journal)
+    go : (b : Bool) → (view.ended + 1 == length (lanes_in setup.job post.number)) ≡ b → LastIsLast (items_sent setup post (after setup post view (Ended l)) lane journal)
+        → (length (lanes_in setup.job post.number) ≤ view.ended + 1 → items_sent setup post (after setup post view (Ended l)) lane journal ≡ [])
+        → LastIsLast (items_on lane (cond b (put_on_each Last (lanes_out setup.job post.number)) []) ++ items_sent setup post (after setup post view (Ended l)) lane journal)
     go true e h k =
-        subst (λ zs. LastIsLast (zs ++ sent setup post (after setup post view (Ended l)) lane journal)) (sym (one_on Last lane (lanes_out setup.job post.number) (out_distinct setup.job post.number) out))
+        subst (λ zs. LastIsLast (zs ++ items_sent setup post (after setup post view (Ended l)) lane journal)) (sym (one_on Last lane (lanes_out setup.job post.number) (out_distinct setup.job post.number) out))
         (k (just_all view.ended (length (lanes_in setup.job post.number)) e))
     go false e h k = h
 
@@ -163,7 +163,7 @@ fed_goes_on job rows lane issued feeds x i = let r = on_lane lane x (fed_puts jo
 
     put_goes_on : (issued : ℕ) (feeds : List Feed) (p : Put) → IsIn p (fed_puts job rows issued feeds) → GoesOn p.item
     put_goes_on issued [] p i = absurd i
-    put_goes_on issued (Fed k ∷ more) p i = elim (in_cases p (fed_put job issued (row_at rows k)) (fed_puts job rows issued more) i) [ inl a ↦ one issued (row_at rows k) p a | inr b ↦ put_goes_on issued more p b ]
+    put_goes_on issued (Fed k ∷ more) p i = elim (in_cases p (fed_put job issued (row_numbered rows k)) (fed_puts job rows issued more) i) [ inl a ↦ one issued (row_numbered rows k) p a | inr b ↦ put_goes_on issued more p b ]
     put_goes_on issued (Issued r ∷ more) p i = put_goes_on (issued + 1) more p i
     put_goes_on issued (Stopped ∷ more) p i = put_goes_on issued more p i
 
@@ -197,7 +197,7 @@ module _ (begin : Begin) (rows : List Row) (ran : Ran) (n : ℕ) (lane : Lane) (
           let number : post.number ≡ w = (worker_with ran.setup.job w post p).0 in
           let out : IsIn lane (lanes_out ran.setup.job post.number) = goes_out ran.setup.job n lane post.number g (s ∙ ap Some (sym number)) in
           let f = finished w post journal p q in
-          subst LastIsLast (same_Some (sent ran.setup post (view_at ran.setup begin.turned post counts) lane journal) items h)
+          subst LastIsLast (same_Some (items_sent ran.setup post (view_at ran.setup begin.turned post counts) lane journal) items h)
           (sent_last ran.setup post lane (duties ran.setup begin.turned post) (initial (duties ran.setup begin.turned post)) (view_at ran.setup begin.turned post counts) journal out f.lawful.execution)
 
   pub lane_conserved : (journal : List Entry) (items taken left : List Item) → slice_get ran.journals lane.receiver ≡ Some journal → put_by begin rows ran lane lane.sender ≡ Some items → taken ≡ shown ran.setup n journal → items ≡ taken ++ left

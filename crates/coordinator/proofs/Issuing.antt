@@ -12,7 +12,7 @@ use Rattle.flow_model.specs.SetupView.{SetupView}
 use Rattle.flow_model.specs.Workers.{workers_in}
 use Rattle.coordinator.specs.Boxes.{AreBoxes, AreCountedWith, ArePosted, AreReady, AsIssued, IsUnready, LastAtLeast, SameBoxes, SameLoads, SamePosts, SomeBelow}
 use Rattle.coordinator.specs.Feeding.{IsFeeding}
-use Rattle.coordinator.specs.Numbers.{node_at, number_of, posted_number}
+use Rattle.coordinator.specs.Numbers.{node_at, covering_count, posted_number}
 use Rattle.coordinator.specs.Steps.{Issues}
 use Rattle.coordinator.specs.Views.{BoxesIs, FeederIs}
 use Rattle.coordinator.specs.declared.feeding.FeedTurn.TheVariants.{Idle, Moved}
@@ -37,14 +37,14 @@ asked_boxes_are setup turned issued old mid law e b s le ready = record {
 }
 
 -- what a box has, with its number
-number_there : (setup : SetupView) (turned issued : ℕ) (b : BoxesIs) → AreBoxes setup turned issued b → (w : ℕ) (p : PosterIs) → slice_get b.posters w ≡ Some p → slice_get b.covered w ≡ Some (number_of setup turned w issued)
+number_there : (setup : SetupView) (turned issued : ℕ) (b : BoxesIs) → AreBoxes setup turned issued b → (w : ℕ) (p : PosterIs) → slice_get b.posters w ≡ Some p → slice_get b.covered w ≡ Some (covering_count setup turned w issued)
 number_there setup turned issued b law w p g =
     let r = also_in b.posters b.covered w law.one_number_each (slice_get_within b.posters w p g) in
     r.1 ∙ ap Some (law.counted w r.0 r.1)
 
-pub all_shown : (setup : SetupView) (turned issued : ℕ) (b : BoxesIs) → AreBoxes setup turned issued b → b.ready ≡ length b.posters → (w : ℕ) (p : PosterIs) → slice_get b.posters w ≡ Some p → LastAtLeast (number_of setup turned w issued) p.loads
+pub all_shown : (setup : SetupView) (turned issued : ℕ) (b : BoxesIs) → AreBoxes setup turned issued b → b.ready ≡ length b.posters → (w : ℕ) (p : PosterIs) → slice_get b.posters w ≡ Some p → LastAtLeast (covering_count setup turned w issued) p.loads
 all_shown setup turned issued b law e w p g =
-    law.ready_are w (number_of setup turned w issued) p (let lt = slice_get_within b.posters w p g in omega (arith, lt, e)) (number_there setup turned issued b law w p g) g
+    law.ready_are w (covering_count setup turned w issued) p (let lt = slice_get_within b.posters w p g in omega (arith, lt, e)) (number_there setup turned issued b law w p g) g
 
 -- the next number may be posted
 pub may_post : (setup : SetupView) (turned issued : ℕ) (b : BoxesIs) → AreBoxes setup turned issued b → b.ready ≡ length b.posters
@@ -59,29 +59,29 @@ module _ (setup : SetupView) (turned issued : ℕ) (mid new : BoxesIs) (law : Ar
   one : issued + 1 ≡ suc issued
   one = omega arith
 
-  number_next : (w m n : ℕ) (b : Bool) → covers setup (issued + 1) (node_at setup w) ≡ b → m ≡ number_of setup turned w issued → n ≡ cond b (m + 1) m → n ≡ number_of setup turned w (issued + 1)
+  number_next : (w m n : ℕ) (b : Bool) → covers setup (issued + 1) (node_at setup w) ≡ b → m ≡ covering_count setup turned w issued → n ≡ cond b (m + 1) m → n ≡ covering_count setup turned w (issued + 1)
   number_next w m n true c is e =
-      e ∙ (number_covered setup turned w issued m le (ap (λ k. covers setup k (node_at setup w)) (sym one) ∙ c) is ∙ ap (number_of setup turned w) (sym one))
+      e ∙ (number_covered setup turned w issued m le (ap (λ k. covers setup k (node_at setup w)) (sym one) ∙ c) is ∙ ap (covering_count setup turned w) (sym one))
   number_next w m n false c is e =
-      e ∙ (number_uncovered setup turned w issued m (ap (λ k. covers setup k (node_at setup w)) (sym one) ∙ c) is ∙ ap (number_of setup turned w) (sym one))
+      e ∙ (number_uncovered setup turned w issued m (ap (λ k. covers setup k (node_at setup w)) (sym one) ∙ c) is ∙ ap (covering_count setup turned w) (sym one))
 
-  counted_next : (w n : ℕ) → slice_get new.covered w ≡ Some n → n ≡ number_of setup turned w (issued + 1)
+  counted_next : (w n : ℕ) → slice_get new.covered w ≡ Some n → n ≡ covering_count setup turned w (issued + 1)
   counted_next w n g =
       let r = also_there new.covered mid.covered w (sym counts.0) (slice_get_within new.covered w n g) in
       number_next w r.0 n (covers setup (issued + 1) (node_at setup w)) refl (law.counted w r.0 r.1) (counts.1 w r.0 n r.1 g)
 
   -- the number of a box that is there
-  new_number : (w : ℕ) (q : PosterIs) → slice_get new.posters w ≡ Some q → slice_get new.covered w ≡ Some (number_of setup turned w (issued + 1))
+  new_number : (w : ℕ) (q : PosterIs) → slice_get new.posters w ≡ Some q → slice_get new.covered w ≡ Some (covering_count setup turned w (issued + 1))
   new_number w q g =
       let as_many : length new.covered ≡ length new.posters = counts.0 ∙ (law.one_number_each ∙ sym boxes.0) in
       let r = also_in new.posters new.covered w as_many (slice_get_within new.posters w q g) in
       r.1 ∙ ap Some (counted_next w r.0 r.1)
 
-  posted_next : (w : ℕ) (p q : PosterIs) → slice_get mid.posters w ≡ Some p → q.posted ≡ cond (is_head setup (issued + 1) (node_at setup w)) (number_of setup turned w (issued + 1)) p.posted
+  posted_next : (w : ℕ) (p q : PosterIs) → slice_get mid.posters w ≡ Some p → q.posted ≡ cond (is_head setup (issued + 1) (node_at setup w)) (covering_count setup turned w (issued + 1)) p.posted
       → q.posted ≡ posted_number setup turned w (issued + 1)
   posted_next w p q g e =
-      e ∙ (ap (cond (is_head setup (issued + 1) (node_at setup w)) (number_of setup turned w (issued + 1))) (law.posted w p g)
-      ∙ (ap (λ k. cond (is_head setup k (node_at setup w)) (number_of setup turned w k) (posted_number setup turned w issued)) one
+      e ∙ (ap (cond (is_head setup (issued + 1) (node_at setup w)) (covering_count setup turned w (issued + 1))) (law.posted w p g)
+      ∙ (ap (λ k. cond (is_head setup k (node_at setup w)) (covering_count setup turned w k) (posted_number setup turned w issued)) one
       ∙ ap (posted_number setup turned w) (sym one)))
 
   pub next_boxes : new.ready ≡ 0 → AreBoxes setup turned (issued + 1) new
@@ -91,7 +91,7 @@ module _ (setup : SetupView) (turned issued : ℕ) (mid new : BoxesIs) (law : Ar
     counted = counted_next;
     posted = λ w q g.
         let r = also_there new.posters mid.posters w (sym boxes.0) (slice_get_within new.posters w q g) in
-        posted_next w r.0 q r.1 (posts_are w (number_of setup turned w (issued + 1)) r.0 q (new_number w q g) r.1 g);
+        posted_next w r.0 q r.1 (posts_are w (covering_count setup turned w (issued + 1)) r.0 q (new_number w q g) r.1 g);
     ready_within = omega (arith, none);
     ready_are = λ w n p lt c g. absurd (omega (arith, lt, none));
   }
@@ -103,9 +103,9 @@ module _ (setup : SetupView) (turned issued : ℕ) (mid new : BoxesIs) (law : Ar
         let r = also_there old mid.posters w b.0 (slice_get_within old w p a) in
         let m : PosterIs = r.0 in
         let back : issued + 1 - 1 ≡ issued = omega arith in
-        let last : LastAtLeast (number_of setup turned w issued) q.loads = subst (LastAtLeast (number_of setup turned w issued)) (sym (l w m q r.1 c)) (all_shown setup turned issued mid law e w m r.1) in (
-          subst (λ k. LastAtLeast (number_of setup turned w k) q.loads) (sym back) last,
-          posts_are w (number_of setup turned w (issued + 1)) m q (new_number w q c) r.1 c ∙ ap (cond (is_head setup (issued + 1) (node_at setup w)) (number_of setup turned w (issued + 1))) (s w p m a r.1),
+        let last : LastAtLeast (covering_count setup turned w issued) q.loads = subst (LastAtLeast (covering_count setup turned w issued)) (sym (l w m q r.1 c)) (all_shown setup turned issued mid law e w m r.1) in (
+          subst (λ k. LastAtLeast (covering_count setup turned w k) q.loads) (sym back) last,
+          posts_are w (covering_count setup turned w (issued + 1)) m q (new_number w q c) r.1 c ∙ ap (cond (is_head setup (issued + 1) (node_at setup w)) (covering_count setup turned w (issued + 1))) (s w p m a r.1),
         )),
     (boxes.0 ∙ b.0, λ w p q a c. let r = also_there old mid.posters w b.0 (slice_get_within old w p a) in boxes.1 w r.0 q r.1 c ∙ b.1 w p r.0 a r.1),
   )

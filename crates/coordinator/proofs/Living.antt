@@ -17,7 +17,7 @@ use Rattle.coordinator.specs.Due.{HasHeard, IsDue, NoneIsDue}
 use Rattle.coordinator.specs.Feeding.{IsFeeder, IsFeeding, issue_rows, waits}
 use Rattle.coordinator.specs.Live.{AreHeard, AreNumbered, Hears, IsFromFirst, fed_in, released_rows}
 use Rattle.coordinator.specs.Steps.{IsAhead, IsReached, Steps}
-use Rattle.coordinator.specs.Turning.{IsTurn, Waits}
+use Rattle.coordinator.specs.Turning.{IsFeederTurn, Waits}
 use Rattle.coordinator.specs.Views.{BoxesIs, FeederIs}
 use Rattle.lane_core.specs.Lane.{EndpointIs}
 use Rattle.coordinator.specs.declared.feeding.FeedTurn.{FeedTurn}
@@ -130,7 +130,7 @@ live_waits setup rows released old new lo ln first (inr (inr (inr h))) hears =
 
 pub is_live_turn : (setup : SetupView) (rows : List Row) (released : ℕ) (old new : FeederIs) (turn : FeedTurn) (lo ln : List ℕ) → IsFromFirst old
     → Steps setup (released_rows released (length rows) (afters setup.requests)) rows old new turn → Hears (length setup.requests) released lo ln
-    → IsTurn true setup rows turn (record old { loads = lo }) (record new { loads = ln })
+    → IsFeederTurn true setup rows turn (record old { loads = lo }) (record new { loads = ln })
 is_live_turn setup rows released old new turn lo ln first s hears =
     let xs : List ℕ = released_rows released (length rows) (afters setup.requests) in
     record {

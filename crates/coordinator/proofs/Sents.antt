@@ -5,7 +5,7 @@ use Rattle.sink_journal.specs.declared.journal.Feed.{Feed}
 use Rattle.sink_journal.specs.declared.journal.Feed.TheVariants.{Fed, Issued, Stopped}
 use Rattle.tuple_trace.specs.declared.row.Row.{Row}
 use Rattle.tuple_trace.specs.declared.tuple.Item.{Item}
-use Rattle.flow_model.specs.Feeding.{fed, fed_put, fed_puts, row_at}
+use Rattle.flow_model.specs.Feeding.{fed, fed_put, fed_puts, row_numbered}
 use Rattle.flow_model.specs.Lanes.{is_same_lane, is_same_sender, lane_of, lanes}
 use Rattle.flow_model.specs.declared.topology.Lane.{Lane}
 use Rattle.flow_model.specs.Replay.{Put, items_on}
@@ -26,8 +26,8 @@ items_append lane (p ∷ ps) qs = go (is_same_lane p.lane lane) refl (items_appe
 pub puts_append : (job : JobView) (rows : List Row) (issued : ℕ) (xs ys : List Feed) → fed_puts job rows issued (xs ++ ys) ≡ fed_puts job rows issued xs ++ fed_puts job rows (issued + issued_in xs) ys
 puts_append job rows issued [] ys = let e : issued ≡ issued + 0 = omega arith in ap (λ n. fed_puts job rows n ys) e
 puts_append job rows issued (Fed k ∷ xs) ys =
-    ap (λ l. fed_put job issued (row_at rows k) ++ l) (puts_append job rows issued xs ys)
-    ∙ sym (append_assoc (fed_put job issued (row_at rows k)) (fed_puts job rows issued xs) (fed_puts job rows (issued + issued_in xs) ys))
+    ap (λ l. fed_put job issued (row_numbered rows k) ++ l) (puts_append job rows issued xs ys)
+    ∙ sym (append_assoc (fed_put job issued (row_numbered rows k)) (fed_puts job rows issued xs) (fed_puts job rows (issued + issued_in xs) ys))
 puts_append job rows issued (Issued r ∷ xs) ys =
     let e : issued + 1 + issued_in xs ≡ issued + suc (issued_in xs) = omega arith in
     puts_append job rows (issued + 1) xs ys ∙ ap (λ n. fed_puts job rows (issued + 1) xs ++ fed_puts job rows n ys) e

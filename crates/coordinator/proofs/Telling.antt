@@ -16,7 +16,7 @@ use Rattle.lane_core.specs.Lane.{EndpointIs, end_of}
 use Rattle.coordinator.specs.Due.{HasHeard, IsDue, NoneIsDue}
 use Rattle.coordinator.specs.Feeding.{IsFeeder, IsFeeding}
 use Rattle.coordinator.specs.Steps.{IsAhead, IsReached, Steps, fed_item}
-use Rattle.coordinator.specs.Turning.{AtMostOneMore, Grew, IsTurn, Waits}
+use Rattle.coordinator.specs.Turning.{AtMostOneMore, Grew, IsFeederTurn, Waits}
 use Rattle.coordinator.specs.declared.feeding.FeedTurn.{FeedTurn}
 use Rattle.coordinator.specs.declared.feeding.FeedTurn.TheVariants.{Done, Idle, Moved, NoMemory}
 use Rattle.coordinator.proofs.Keeping.{keeps}
@@ -312,7 +312,7 @@ idle_waits setup rows old new (inr (inr (inr h))) =
 as_before : (old new : FeederIs) → new ≡ old → new ≡ record old { loads = new.loads }
 as_before old new e = subst (λ (z : FeederIs). z ≡ record old { loads = z.loads }) (sym e) refl
 
-pub is_turn : (setup : SetupView) (rows : List Row) (old new : FeederIs) (turn : FeedTurn) → Steps setup (afters setup.requests) rows old new turn → IsTurn false setup rows turn old new
+pub is_turn : (setup : SetupView) (rows : List Row) (old new : FeederIs) (turn : FeedTurn) → Steps setup (afters setup.requests) rows old new turn → IsFeederTurn false setup rows turn old new
 is_turn setup rows old new turn s =
     let xs : List ℕ = afters setup.requests in
     record {

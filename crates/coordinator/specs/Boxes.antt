@@ -5,7 +5,7 @@ use Rattle.control_box.specs.Endpoints.{HasShownReady, PosterIs}
 use Rattle.flow_model.specs.Covers.{covers, is_head}
 use Rattle.flow_model.specs.SetupView.{SetupView}
 use Rattle.flow_model.specs.Workers.{workers_in}
-use Rattle.coordinator.specs.Numbers.{node_at, number_of, posted_number}
+use Rattle.coordinator.specs.Numbers.{node_at, covering_count, posted_number}
 use Rattle.coordinator.specs.Views.{BoxesIs}
 
 -- the last of the loads is at least this number
@@ -80,7 +80,7 @@ pub record AreBoxes (setup : SetupView) (turned issued : ℕ) (boxes : BoxesIs) 
   pub one_each : length boxes.posters ≡ length (workers_in setup.job)
   pub one_number_each : length boxes.covered ≡ length boxes.posters
   pub counted :
-      (w n : ℕ) → slice_get boxes.covered w ≡ Some n → n ≡ number_of setup turned w issued
+      (w n : ℕ) → slice_get boxes.covered w ≡ Some n → n ≡ covering_count setup turned w issued
   pub posted :
       (w : ℕ) (p : PosterIs) → slice_get boxes.posters w ≡ Some p
       → p.posted ≡ posted_number setup turned w issued
@@ -91,7 +91,8 @@ pub record AreBoxes (setup : SetupView) (turned issued : ℕ) (boxes : BoxesIs) 
 abbrev pub SomeBelow : SetupView → ℕ → ℕ → List PosterIs → List PosterIs → Type 0
 SomeBelow setup turned issued old new =
     (w : ℕ) × (p : PosterIs) × (q : PosterIs) × (slice_get old w ≡ Some p)
-    × (slice_get new w ≡ Some q) × LoadedBelow (number_of setup turned w issued) p.loads q.loads
+    × (slice_get new w ≡ Some q)
+    × LoadedBelow (covering_count setup turned w issued) p.loads q.loads
 
 -- A request is issued: the last load of each box shows that its worker turned all earlier requests
 -- that cover it. The request is posted to each worker of its heads, under its number there, and to
@@ -99,6 +100,6 @@ SomeBelow setup turned issued old new =
 abbrev pub AsIssued : SetupView → ℕ → ℕ → List PosterIs → List PosterIs → Type 0
 AsIssued setup turned request old new =
     (w : ℕ) (p q : PosterIs) → slice_get old w ≡ Some p → slice_get new w ≡ Some q →
-    LastAtLeast (number_of setup turned w (request - 1)) q.loads
+    LastAtLeast (covering_count setup turned w (request - 1)) q.loads
     × (q.posted ≡ (if is_head setup request (node_at setup w)
-    then number_of setup turned w request else p.posted))
+    then covering_count setup turned w request else p.posted))

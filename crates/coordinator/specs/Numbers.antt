@@ -20,8 +20,8 @@ covered_to setup node (suc r) =
 
 -- How many of the requests up to this one cover a worker, without those that were turned before the
 -- beginning. It is the number of the last of them in the worker's box.
-abbrev pub number_of : SetupView → ℕ → ℕ → ℕ → ℕ
-number_of setup turned worker request =
+abbrev pub covering_count : SetupView → ℕ → ℕ → ℕ → ℕ
+covering_count setup turned worker request =
     covered_to setup (node_at setup worker) request - covered_to setup (node_at setup worker) turned
 
 -- The number in a worker's box once the requests up to this one are issued. It is that of the last
@@ -31,4 +31,4 @@ abbrev pub posted_number : SetupView → ℕ → ℕ → ℕ → ℕ
 posted_number setup turned worker zero = 0
 posted_number setup turned worker (suc r) =
     if is_head setup (suc r) (node_at setup worker)
-    then number_of setup turned worker (suc r) else posted_number setup turned worker r
+    then covering_count setup turned worker (suc r) else posted_number setup turned worker r

@@ -20,8 +20,8 @@ use Rattle.coordinator.specs.Views.{FeederIs}
 use Rattle.lane_core.specs.Lane.{EndpointIs, end_of}
 
 -- the lane at this place was full
-abbrev pub FoundFull : ℕ → List EndpointIs → List EndpointIs → Type 0
-FoundFull place old new =
+abbrev pub FoundItsLaneFull : ℕ → List EndpointIs → List EndpointIs → Type 0
+FoundItsLaneFull place old new =
     (o : EndpointIs) × (q : EndpointIs) × (slice_get old place ≡ Some o)
     × (slice_get new place ≡ Some q) × Rose o.stalls q.stalls
 
@@ -42,13 +42,13 @@ abbrev pub RowWaits : Bool → SetupView → List Row → FeederIs → FeederIs 
 RowWaits live setup rows old new =
     (row : Row) × (place : ℕ) × (slice_get rows old.row ≡ Some row)
     × NoneIsDue live setup rows new.loads old × HasHeard setup rows old new
-    × IsLaneOfRow setup.job row place × FoundFull place old.outs new.outs
+    × IsLaneOfRow setup.job row place × FoundItsLaneFull place old.outs new.outs
 
 -- no request is due, no row is left, and a lane that isn't ended was full
 abbrev pub EndWaits : Bool → SetupView → List Row → FeederIs → FeederIs → Type 0
 EndWaits live setup rows old new =
     NoneIsDue live setup rows new.loads old × (length rows ≤ old.row)
-    × (old.ended < length old.outs) × FoundFull old.ended old.outs new.outs
+    × (old.ended < length old.outs) × FoundItsLaneFull old.ended old.outs new.outs
 
 abbrev pub Waits : Bool → SetupView → List Row → FeederIs → FeederIs → Type 0
 Waits live setup rows old new =
@@ -70,7 +70,7 @@ AtMostOneMore {A} old new = (new ≡ old) ⊎ ((item : A) × (new ≡ old ++ ite
 -- boxes stay what they are. The feed gets at most one entry. A request is issued only once it is
 -- due and as it has to be, and otherwise nothing is posted. A row is fed, and a lane ended, only if
 -- no request is due. Each outcome has its cause.
-pub record IsTurn (live : Bool) (setup : SetupView) (rows : List Row) (answer : FeedTurn)
+pub record IsFeederTurn (live : Bool) (setup : SetupView) (rows : List Row) (answer : FeedTurn)
     (old new : FeederIs) : Type 0 where
   pub law :
       (begin : Begin) → IsFeeder live setup begin rows old → IsFeeder live setup begin rows new

@@ -6,7 +6,7 @@ ghost use Rattle.flow_model.specs.Begin.{Begin, at_first};
 ghost use Rattle.flow_model.specs.Setup.{setup_view};
 ghost use Rattle.coordinator.specs.Feeding.{IsFeeder};
 ghost use Rattle.coordinator.specs.Starts.{AreNewOuts, AreUnused};
-ghost use Rattle.coordinator.specs.Turning.{IsTurn};
+ghost use Rattle.coordinator.specs.Turning.{IsFeederTurn};
 ghost use Rattle.coordinator.specs.Views.{FeederIs};
 
 use control_box::Poster;
@@ -92,7 +92,7 @@ pub trait Feeding<L: Lanes>: Sized {
         requires law { (begin : Begin)
             × IsFeeder LIVE (setup_view setup.now) begin rows.now (feeder self.old) }
         requires rows { AreFromSources (setup_view setup.now).job rows.now }
-        ensures turn { IsTurn LIVE (setup_view setup.now) rows.now result (feeder self.old)
+        ensures turn { IsFeederTurn LIVE (setup_view setup.now) rows.now result (feeder self.old)
             (feeder self.new) }
         ensures kept { (seed : Self.Seed) → kept seed (feeder self.old).feeds (rest self.old)
             → kept seed (feeder self.new).feeds (rest self.new) };

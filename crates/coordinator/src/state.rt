@@ -11,7 +11,7 @@ ghost use Rattle.coordinator.specs.Feeding.{IsFeeder, IsFeeding};
 ghost use Rattle.coordinator.specs.Live.{AreHeard, Hears, IsFromFirst, released_rows};
 ghost use Rattle.coordinator.specs.Starts.{AreNewOuts, AreUnused};
 ghost use Rattle.coordinator.specs.Steps.{Feeds, IsAhead, IsReached, Issues, Steps, Stops};
-ghost use Rattle.coordinator.specs.Turning.{IsTurn};
+ghost use Rattle.coordinator.specs.Turning.{IsFeederTurn};
 ghost use Rattle.coordinator.specs.Views.{FeederIs};
 
 use crate::FeedTurn;
@@ -122,7 +122,7 @@ impl<N, T: Tx<N> + Drop> FeederState<N, T> {
         requires law { (begin : Begin) × IsFeeder false (setup_view setup.now) begin rows.now
             self.old }
         requires rows { AreFromSources (setup_view setup.now).job rows.now }
-        ensures { IsTurn false (setup_view setup.now) rows.now result self.old self.new }
+        ensures { IsFeederTurn false (setup_view setup.now) rows.now result self.old self.new }
     {
         let _requests = setup.request_count();
         self.step(need, setup, rows, gate, u64::MAX)
@@ -145,7 +145,8 @@ impl<N, T: Tx<N> + Drop> FeederState<N, T> {
         ensures first { IsFromFirst self.new }
         ensures turn { (old new : List ℕ)
             → Hears (length (setup_view setup.now).requests) released old new
-            → IsTurn true (setup_view setup.now) rows.now result (record self.old { loads = old })
+            → IsFeederTurn true (setup_view setup.now) rows.now result
+            (record self.old { loads = old })
             (record self.new { loads = new }) }
         ensures heard { (begin : Begin) (old new : List ℕ)
             → Hears (length (setup_view setup.now).requests) released old new

@@ -24,7 +24,7 @@ use Rattle.flow_model.specs.Lanes.{senders}
 use Rattle.flow_model.specs.Law.{Duties, IsExecution, IsFinished, Progress, initial}
 use Rattle.flow_model.specs.declared.topology.Lane.{Lane}
 use Rattle.flow_model.specs.SetupView.{SetupView, Worker}
-use Rattle.flow_model.specs.Replay.{Put, StateView, sent, shown}
+use Rattle.flow_model.specs.Replay.{Put, StateView, items_sent, shown}
 use Rattle.flow_model.specs.Run.{IsRunFrom, IsRunSince, Ran, put_by}
 use Rattle.flow_model.specs.Duties.{dues_after, duties}
 use Rattle.flow_model.specs.Setup.{setup_view}
@@ -139,11 +139,11 @@ module _ (begin : Begin) (rows : List Row) (ran : Ran) (g : RunningFrom begin ro
 
   -- what the journal of the sender sends
   pub sent_there : (n w s : ℕ) → HasWorker ran w → HasWorker ran s → (k : LaneIn ran.setup.job (worker_no ran.setup w) n) → k.lane.sender ≡ Some s
-      → shown ran.setup n (journal_of ran w) ≡ sent ran.setup (worker_no ran.setup s) (begun_from begin ran.setup s) k.lane (journal_of ran s)
+      → shown ran.setup n (journal_of ran w) ≡ items_sent ran.setup (worker_no ran.setup s) (begun_from begin ran.setup s) k.lane (journal_of ran s)
   sent_there n w s lt ls k some =
       let e : put_by begin rows ran k.lane (Some s) ≡ Some (shown ran.setup n (journal_of ran w)) =
       subst (λ o. put_by begin rows ran k.lane o ≡ Some (shown ran.setup n (journal_of ran w))) some (put_on n w lt k) in
-      let f : Some (sent ran.setup (worker_no ran.setup s) (begun_from begin ran.setup s) k.lane (journal_of ran s)) ≡ Some (shown ran.setup n (journal_of ran w)) =
+      let f : Some (items_sent ran.setup (worker_no ran.setup s) (begun_from begin ran.setup s) k.lane (journal_of ran s)) ≡ Some (shown ran.setup n (journal_of ran w)) =
       rw (who_there ran.setup s ls, counts_here s ls, journal_here s ls) at e in
       cc
 
@@ -216,11 +216,11 @@ module _ (begin : Begin) (rows : List Row) (ran : Ran) (g : RunningFrom begin ro
           let is : IsWorker ran.setup.job (worker_no ran.setup s) = (worker_is ran.setup s there.within).1 in
           let law = execution begin rows ran g s there.within in
           let delivered : BringSteadily ran.setup (worker_no ran.setup s) (journal_of ran s) = earlier s there.within there.node_is in
-          let sends : IsSteadyList (HasEdge ran.setup.job.edges) (worker_no ran.setup s).node (sent ran.setup (worker_no ran.setup s) (begun_from begin ran.setup s) k.lane (journal_of ran s)) =
+          let sends : IsSteadyList (HasEdge ran.setup.job.edges) (worker_no ran.setup s).node (items_sent ran.setup (worker_no ran.setup s) (begun_from begin ran.setup s) k.lane (journal_of ran s)) =
           sends_steadily ran.setup begin.turned (worker_no ran.setup s) is (begun_from begin ran.setup s) (journal_of ran s) law (rise_from begin ran s) delivered
           (agreed ran.setup g.kept begin.turned (worker_no ran.setup s) is (journal_of ran s) law delivered) k.lane in
           subst (IsSteadyList (HasEdge ran.setup.job.edges) k.edge.from) (sym (sent_there begin rows ran g n w s l there.within k sender.1))
-          (subst (λ v. IsSteadyList (HasEdge ran.setup.job.edges) v (sent ran.setup (worker_no ran.setup s) (begun_from begin ran.setup s) k.lane (journal_of ran s))) there.node_is sends)
+          (subst (λ v. IsSteadyList (HasEdge ran.setup.job.edges) v (items_sent ran.setup (worker_no ran.setup s) (begun_from begin ran.setup s) k.lane (journal_of ran s))) there.node_is sends)
 
   -- every lane is steady
   all_steady : (w : ℕ) → HasWorker ran w → BringSteadily ran.setup (worker_no ran.setup w) (journal_of ran w)

@@ -21,7 +21,7 @@ use Rattle.flow_model.specs.SetupView.{SetupView, Worker}
 use Rattle.flow_model.specs.Planned.{copies_at, splits_at}
 use Rattle.flow_model.specs.Replay.{Put, visit_at}
 use Rattle.flow_model.specs.Duties.{dues_after, numbers_from}
-use Rattle.flow_model.specs.Requests.{change_of, changes, func_after, func_with}
+use Rattle.flow_model.specs.Requests.{change_by, changes, func_after, func_with}
 use Rattle.flow_model.specs.Run.{Ran}
 use Rattle.flow_model.specs.Whole.{IsOneSided, IsWhole, after_turn, any_after, any_before, asked_workers, before_turn, changed_workers, journals_at, meets_row}
 use Rattle.flow_model.specs.Workers.{workers_in}
@@ -99,9 +99,9 @@ same_port begin ran p a b k l x y f ports e =
 -- what is in force at the beginning was given by the job or by a request
 given_at : (setup : SetupView) (node : ℕ) (first func : Func) (turned : ℕ) → first ≡ func → IsGiven setup node first (func_after setup node func turned)
 given_at setup node first func zero e = inl e
-given_at setup node first func (suc r) e = go (change_of setup (suc r) node) refl (given_at setup node first func r e)
+given_at setup node first func (suc r) e = go (change_by setup (suc r) node) refl (given_at setup node first func r e)
   where
-    go : (o : Option Change) → change_of setup (suc r) node ≡ o → IsGiven setup node first (func_after setup node func r) → IsGiven setup node first (func_with o (func_after setup node func r))
+    go : (o : Option Change) → change_by setup (suc r) node ≡ o → IsGiven setup node first (func_after setup node func r) → IsGiven setup node first (func_with o (func_after setup node func r))
     go None f before = before
     go (Some change) f before = inr (suc r, change, f, refl)
 

@@ -16,7 +16,7 @@ use Rattle.flow_model.proofs.LaneLemmas.{in_lanes_that}
 use Rattle.flow_worker.specs.Endpoints.{LaneInIs}
 use Rattle.flow_worker.specs.Parts.{endpoint_in, endpoint_out}
 use Rattle.lane_core.specs.Lane.{EndpointIs}
-use Rattle.flow_worker.specs.Worker.{IsWorker, WorkerIs, numbers_in}
+use Rattle.flow_worker.specs.Worker.{IsWorker, WorkerIs, lane_numbers_in}
 use Rattle.std.proofs.Common.{append-nil, append_assoc, length-append}
 use Rattle.std.proofs.lemmas.List.{length-map, map-append}
 use Rattle.flow_model.proofs.PlaceLemmas.{append_get}
@@ -39,7 +39,7 @@ placed_more P xs ys y same each is k x g = go (get-more xs k y x (ap (λ l. slic
     go (inl h) = each k x h
     go (inr e) = subst (λ n. P n x) (sym e.0) (subst (P (length xs)) (sym e.1) is)
 
-pub same_in : (ins : List LaneInIs) → numbers_of (map endpoint_in ins) ≡ numbers_in ins
+pub same_in : (ins : List LaneInIs) → numbers_of (map endpoint_in ins) ≡ lane_numbers_in ins
 same_in [] = refl
 same_in (a ∷ ins) = ap (λ l. a.number ∷ l) (same_in ins)
 
@@ -56,7 +56,7 @@ pub has_number : (setup : SetupView) (begin : Begin) (v : WorkerIs) (ends : List
 has_number setup begin v ends w law same are =
     go v.ins (law.placed.some_in) (sym (same_in v.ins) ∙ (ap numbers_of same ∙ are)) law.placed.ins_are
   where
-    go : (ins : List LaneInIs) → v.next < length ins → numbers_in ins ≡ lanes_in setup.job w → numbers_in ins ≡ lanes_in setup.job v.number → v.number ≡ w
+    go : (ins : List LaneInIs) → v.next < length ins → lane_numbers_in ins ≡ lanes_in setup.job w → lane_numbers_in ins ≡ lanes_in setup.job v.number → v.number ≡ w
     go [] lt a b = absurd (omega (arith, lt))
     go (x ∷ ins) lt a b = one_receiver setup.job x.number v.number w (subst (IsIn x.number) b (inl refl)) (subst (IsIn x.number) a (inl refl))
 

@@ -13,7 +13,7 @@ use Rattle.flow_model.specs.Begin.{Begin, view_at}
 use Rattle.flow_model.specs.Lanes.{lanes}
 use Rattle.flow_model.specs.declared.topology.Lane.{Lane}
 use Rattle.flow_model.specs.SetupView.{SetupView, Worker as WorkerOf}
-use Rattle.flow_model.specs.Replay.{sent, shown}
+use Rattle.flow_model.specs.Replay.{items_sent, shown}
 use Rattle.flow_model.specs.Requests.{afters}
 use Rattle.flow_model.specs.Run.{IsFinishedFrom, IsRunSince, IsWorked, Ran, final_counts, put_by, sent_by}
 use Rattle.flow_model.specs.Workers.{workers_in}
@@ -142,7 +142,7 @@ module _ (setup : SetupView) (begin : Begin) (rows : List Row) (workers : List W
         let sends = each_got (Sends setup begin is.law.who is.law.begun worker.journal) worker.outs k out is.law.sends at_out lane (ap (slice_get (lanes setup.job)) number ∙ at) in
         let none = each_got (λ (o : LaneOutIs). o.waiting ≡ []) worker.outs k out is.done.1 at_out in
         let all : planned out ≡ out.sent = ap (λ l. out.sent ++ l) none ∙ append-nil out.sent in
-        let items : sent setup is.law.who (view_at setup begin.turned is.law.who is.law.begun) lane worker.journal ≡ s.tx.items = sym sends ∙ (all ∙ ap (λ (y : EndpointIs). y.items) (sym x)) in
+        let items : items_sent setup is.law.who (view_at setup begin.turned is.law.who is.law.begun) lane worker.journal ≡ s.tx.items = sym sends ∙ (all ∙ ap (λ (y : EndpointIs). y.items) (sym x)) in
         ap (λ (o : Option WorkerOf). sent_by setup begin lane o (slice_get begin.states w) (slice_get ran.journals w)) (is.who_is ∙ ap Some (sym is.same_who))
         ∙ (ap (λ (o : Option Counts). sent_by setup begin lane (Some is.law.who) o (slice_get ran.journals w)) (is.begun_is ∙ ap Some (sym is.same_counts))
         ∙ (ap (λ (o : Option (List Entry)). sent_by setup begin lane (Some is.law.who) (Some is.law.begun) o) (at_journal w worker there) ∙ ap Some items))

@@ -11,10 +11,10 @@ use Rattle.flow_model.specs.SetupView.{SetupView}
 use Rattle.flow_model.proofs.ElementLemmas.{in_filter, in_of_place}
 use Rattle.flow_model.proofs.LaneLemmas.{in_enumerate, same_number}
 use Rattle.flow_worker.specs.Endpoints.{LaneOutIs}
-use Rattle.flow_worker.specs.Pairs.{Each}
+use Rattle.flow_worker.specs.Pairs.{EachOne}
 use Rattle.flow_worker.specs.Parts.{endpoint_out}
 use Rattle.lane_core.specs.Lane.{EndpointIs}
-use Rattle.flow_worker.specs.Worker.{WorkerIs, numbers_out}
+use Rattle.flow_worker.specs.Worker.{WorkerIs, lane_numbers_out}
 use Rattle.flow_worker.proofs.Pairs.{get_map, get_mapped, length_mapped}
 use Rattle.coordinator.specs.Feeding.{fed_lanes}
 use Rattle.flow_crew.specs.Ended.{IsOver}
@@ -22,7 +22,7 @@ use Rattle.flow_crew.specs.Sides.{AreMatched, HaveAllLanes, SideIs, feeder_sends
 use Rattle.flow_crew.proofs.Crewing.{same_in}
 use Rattle.flow_crew.proofs.Sorting.{each_placed}
 
-same_out : (outs : List LaneOutIs) → numbers_of (map endpoint_out outs) ≡ numbers_out outs
+same_out : (outs : List LaneOutIs) → numbers_of (map endpoint_out outs) ≡ lane_numbers_out outs
 same_out [] = refl
 same_out (a ∷ outs) = ap (λ l. a.number ∷ l) (same_out outs)
 
@@ -87,10 +87,10 @@ module _ (setup : SetupView) (begin : Begin) (rows : List Row) (workers : List W
           let is = over.feeding.outs k lane x h (ap (λ l. slice_get l k) (sym over.outs_are) ∙ at) in
           ap (slice_get (lanes setup.job)) e ∙ is.numbered
 
-  pub room_in : Each (λ (w : WorkerIs). length w.ins ≤ w.spare_in) workers
+  pub room_in : EachOne (λ (w : WorkerIs). length w.ins ≤ w.spare_in) workers
   room_in = each_placed (λ (w : WorkerIs). length w.ins ≤ w.spare_in) workers (λ k w g. (over.crew.law k w g).placed.room_in)
 
-  pub room_out : Each (λ (w : WorkerIs). length w.outs ≤ w.spare_out) workers
+  pub room_out : EachOne (λ (w : WorkerIs). length w.outs ≤ w.spare_out) workers
   room_out = each_placed (λ (w : WorkerIs). length w.outs ≤ w.spare_out) workers (λ k w g. (over.crew.law k w g).placed.room_out)
 
   -- the same of the endpoints as code has them

@@ -13,14 +13,14 @@ use Rattle.flow_model.specs.declared.topology.Lane.{Lane}
 use Rattle.flow_model.specs.Workers.{workers_in}
 use Rattle.flow_model.proofs.LaneLemmas.{lane_is}
 use Rattle.flow_model.proofs.PlaceLemmas.{append_get, get_left}
-use Rattle.flow_worker.specs.Pairs.{Each}
+use Rattle.flow_worker.specs.Pairs.{EachOne}
 use Rattle.flow_worker.specs.Parts.{AreNewEndpoints}
 use Rattle.flow_model.specs.NewEndpoint.{IsNewEndpoint}
 use Rattle.flow_worker.proofs.Pairs.{each_map}
 use Rattle.coordinator.specs.Starts.{AreNewOuts}
 use Rattle.flow_crew.specs.Sides.{AreMatched, empty_side, feeder_sends, ins_at, IsAmong, numbers_of, outs_at, side_ins, side_outs, SideIs}
 use Rattle.std.proofs.Common.{length-append}
-use Rattle.flow_crew.specs.Sorted.{HasLanes, AreMarked, AreNewAt, HaveFirstLanes, IsMarked, changed, leads_to, leads_from, more_in, with_fed, with_out}
+use Rattle.flow_crew.specs.Sorted.{HasLanes, AreAllMarked, AreNewAt, HaveFirstLanes, IsMarked, changed_at, leads_to, leads_from, more_in, with_fed, with_out}
 use Rattle.flow_crew.proofs.Numbers.{first_all, first_none}
 use Rattle.flow_crew.proofs.Sorting.{each_got, sort_in, sort_out, weaker}
 
@@ -53,7 +53,7 @@ length-replicate : {A : Type 0} (n : ℕ) (x : A) → length (replicate n x) ≡
 length-replicate zero x = refl
 length-replicate (suc n) x = ap suc (length-replicate n x)
 
-pub marked_first : (job : JobView) (graph : Graph) (n : ℕ) (all : List SideIs) (fed : List EndpointIs) → n ≡ length (workers_in job) → all ≡ replicate n empty_side → fed ≡ [] → (marks : List LaneId) × AreMarked job graph 0 marks all fed
+pub marked_first : (job : JobView) (graph : Graph) (n : ℕ) (all : List SideIs) (fed : List EndpointIs) → n ≡ length (workers_in job) → all ≡ replicate n empty_side → fed ≡ [] → (marks : List LaneId) × AreAllMarked job graph 0 marks all fed
 marked_first job graph n all fed e w f = (
   [],
   (
@@ -71,13 +71,13 @@ marked_first job graph n all fed e w f = (
     empty k side g = get-replicate n k empty_side side (ap (λ l. slice_get l k) (sym w) ∙ g)
 
     none : (test : Lane → Bool) (ends : List EndpointIs) → ends ≡ [] → HasLanes test job (IsMarked job graph []) 0 ends
-    none test ends e = record { numbers = ap numbers_of e ∙ sym (first_none test job); each = subst (Each (IsMarked job graph [])) (sym e) tt }
+    none test ends e = record { numbers = ap numbers_of e ∙ sym (first_none test job); each = subst (EachOne (IsMarked job graph [])) (sym e) tt }
 
 -- ---- one lane more
 
 pub mark_lane : (job : JobView) (graph : Graph) (i : ℕ) (marks : List LaneId) (lane : Lane) (tx rx : EndpointIs) (all : List SideIs) (fed : List EndpointIs) → slice_get (lanes job) i ≡ Some lane
-    → AreNewAt job graph i (tx ∷ []) → AreNewAt job graph i (rx ∷ []) → tx.lane ≡ rx.lane → AreMarked job graph i marks all fed
-    → (more : List LaneId) × AreMarked job graph (i + 1) more (changed (more_in (rx ∷ [])) lane.receiver (with_out lane.sender (tx ∷ []) all)) (with_fed lane.sender (tx ∷ []) fed)
+    → AreNewAt job graph i (tx ∷ []) → AreNewAt job graph i (rx ∷ []) → tx.lane ≡ rx.lane → AreAllMarked job graph i marks all fed
+    → (more : List LaneId) × AreAllMarked job graph (i + 1) more (changed_at (more_in (rx ∷ [])) lane.receiver (with_out lane.sender (tx ∷ []) all)) (with_fed lane.sender (tx ∷ []) fed)
 mark_lane job graph i marks lane tx rx all fed at new_tx new_rx same (long, h) = (more, (longer, sorted))
   where
     more : List LaneId
@@ -105,14 +105,14 @@ mark_lane job graph i marks lane tx rx all fed at new_tx new_rx same (long, h) =
       feeder = weaker (IsMarked job graph marks) (IsMarked job graph more) fed kept h.feeder;
     }
 
-    sorted : HaveFirstLanes job (λ sender. IsMarked job graph more) (λ worker. IsMarked job graph more) (i + 1) (i + 1) (changed (more_in (rx ∷ [])) lane.receiver (with_out lane.sender (tx ∷ []) all)) (with_fed lane.sender (tx ∷ []) fed)
+    sorted : HaveFirstLanes job (λ sender. IsMarked job graph more) (λ worker. IsMarked job graph more) (i + 1) (i + 1) (changed_at (more_in (rx ∷ [])) lane.receiver (with_out lane.sender (tx ∷ []) all)) (with_fed lane.sender (tx ∷ []) fed)
     sorted =
         sort_in job (λ sender. IsMarked job graph more) (λ worker. IsMarked job graph more) i lane at (i + 1) rx (with_out lane.sender (tx ∷ []) all) (with_fed lane.sender (tx ∷ []) fed) new_rx.0.0 (marked rx new_rx (sym same))
         (sort_out job (λ sender. IsMarked job graph more) (λ worker. IsMarked job graph more) i lane at i tx all fed new_tx.0.0 (marked tx new_tx refl) wider)
 
 -- ---- the end
 
-pub marked_worker : (job : JobView) (graph : Graph) (i : ℕ) (marks : List LaneId) (all : List SideIs) (fed : List EndpointIs) (w : ℕ) (side : SideIs) → IsGraphOf job graph → length (lanes job) ≤ i → AreMarked job graph i marks all fed → slice_get all w ≡ Some side
+pub marked_worker : (job : JobView) (graph : Graph) (i : ℕ) (marks : List LaneId) (all : List SideIs) (fed : List EndpointIs) (w : ℕ) (side : SideIs) → IsGraphOf job graph → length (lanes job) ≤ i → AreAllMarked job graph i marks all fed → slice_get all w ≡ Some side
     → AreNewEndpoints job w side.ins side.outs
 marked_worker job graph i marks all fed w side is le (long, h) g = record {
   graph = graph;
@@ -123,7 +123,7 @@ marked_worker job graph i marks all fed w side is le (long, h) g = record {
   new_out = each_map (IsMarked job graph marks) (IsNewEndpoint job graph) side.outs (λ x m. m.0) (h.outs w side g).each;
 }
 
-pub marked_match : (job : JobView) (graph : Graph) (i : ℕ) (marks : List LaneId) (all : List SideIs) (fed : List EndpointIs) → AreMarked job graph i marks all fed → AreMatched all fed
+pub marked_match : (job : JobView) (graph : Graph) (i : ℕ) (marks : List LaneId) (all : List SideIs) (fed : List EndpointIs) → AreAllMarked job graph i marks all fed → AreMatched all fed
 marked_match job graph i marks all fed (long, h) sender receiver tx rx a b same =
     let p = out_has job (λ sender. IsMarked job graph marks) (λ worker. IsMarked job graph marks) i i all fed h sender tx a in
     let q = in_has job (λ sender. IsMarked job graph marks) (λ worker. IsMarked job graph marks) i i all fed h receiver rx b in
@@ -131,7 +131,7 @@ marked_match job graph i marks all fed (long, h) sender receiver tx rx a b same 
 
 -- the endpoints of the feeder are new
 pub marked_feeder : (job : JobView) (graph : Graph) (i : ℕ) (marks : List LaneId) (all : List SideIs) (fed : List EndpointIs) → IsGraphOf job graph → length (lanes job) ≤ i
-    → AreMarked job graph i marks all fed → AreNewOuts job fed
+    → AreAllMarked job graph i marks all fed → AreNewOuts job fed
 marked_feeder job graph i marks all fed is le (long, h) = record {
   graph = graph;
   graph_is = is;

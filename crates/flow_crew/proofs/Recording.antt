@@ -17,16 +17,16 @@ use Rattle.flow_model.specs.Covers.{heads, holds_edge, holds_node, plan_of}
 use Rattle.flow_model.specs.Dues.{AreDues, IsDueOf}
 use Rattle.flow_model.specs.InForce.{change_at, func_in}
 use Rattle.flow_model.specs.Lanes.{lanes, lanes_in, lanes_out, lanes_that}
-use Rattle.flow_model.specs.Law.{IsFinished, IsLawful, initial, progress_after}
+use Rattle.flow_model.specs.Law.{IsFinished, IsLawfulJournal, initial, progress_after}
 use Rattle.flow_model.specs.SetupView.{SetupView, Worker as WorkerOf}
-use Rattle.flow_model.specs.Replay.{StateView, Put, after, after_all, came_in, items_on, marker, marker_by, put_on_each, puts, sent, shown, with_change}
-use Rattle.flow_model.specs.Requests.{change_among, change_in, change_of, func_after, func_with}
+use Rattle.flow_model.specs.Replay.{StateView, Put, after, after_all, came_in, items_on, marker, marker_by, put_on_each, puts, items_sent, shown, after_change}
+use Rattle.flow_model.specs.Requests.{change_among, change_asked, change_by, func_after, func_with}
 use Rattle.flow_model.specs.Duties.{dues_after, numbers_from, duties}
 use Rattle.flow_model.specs.declared.in_force.InForce.{InForce}
 use Rattle.flow_model.specs.declared.in_force.InForce.TheVariants.{Changed, Own}
 use Rattle.flow_model.specs.declared.topology.Lane.{Lane}
 use Rattle.flow_worker.specs.Endpoints.{LaneInIs, LaneOutIs, in_hand, planned}
-use Rattle.flow_worker.specs.Pairs.{Each}
+use Rattle.flow_worker.specs.Pairs.{EachOne}
 use Rattle.flow_worker.specs.Worker.{IsEndpointIn, IsEndpointOut, IsPlaced, IsWorker, WorkerIs, edges_of, view_now, progress_now}
 use Rattle.flow_crew.specs.Crews.{IsCrew}
 
@@ -40,7 +40,7 @@ same_request : (xs ys : List Request) (k : ℕ) → changes_of xs ≡ changes_of
 same_request xs ys k same =
     sym (slice_get-map (λ (request : Request). request.changes) xs k) ∙ (ap (λ (l : List (List Change)). slice_get l k) same ∙ slice_get-map (λ (request : Request). request.changes) ys k)
 
-same_change_in : (q r : Option Request) (node : ℕ) → option_map (λ (request : Request). request.changes) q ≡ option_map (λ (request : Request). request.changes) r → change_in q node ≡ change_in r node
+same_change_in : (q r : Option Request) (node : ℕ) → option_map (λ (request : Request). request.changes) q ≡ option_map (λ (request : Request). request.changes) r → change_asked q node ≡ change_asked r node
 same_change_in None None node e = refl
 same_change_in None (Some r) node e = absurd (cc)
 same_change_in (Some q) None node e = absurd (cc)
@@ -60,7 +60,7 @@ module _ (setup : SetupView) (requests : List Request) (same : changes_of reques
   plan_same zero = refl
   plan_same (suc r) = refl
 
-  change_same : (r node : ℕ) → change_of ran r node ≡ change_of setup r node
+  change_same : (r node : ℕ) → change_by ran r node ≡ change_by setup r node
   change_same zero node = refl
   change_same (suc r) node = same_change_in (slice_get requests r) (slice_get setup.requests r) node (same_request requests setup.requests r same)
 
@@ -70,7 +70,7 @@ module _ (setup : SetupView) (requests : List Request) (same : changes_of reques
   after_same : (who : WorkerOf) (view : StateView) (e : Entry) → after ran who view e ≡ after setup who view e
   after_same who view (entry.Met lane tuple) = refl
   after_same who view (entry.Marked lane request) = refl
-  after_same who view (entry.Turned request) = ap (λ c. record (with_change c view) { last = request }) (change_same request who.node)
+  after_same who view (entry.Turned request) = ap (λ c. record (after_change c view) { last = request }) (change_same request who.node)
   after_same who view (entry.Ended lane) = refl
 
   after_all_same : (who : WorkerOf) (view : StateView) (js : List Entry) → after_all ran who view js ≡ after_all setup who view js
@@ -84,11 +84,11 @@ module _ (setup : SetupView) (requests : List Request) (same : changes_of reques
       flat_map (λ mark. put_on_each mark (filter (λ (lane : Lane). holds_edge (plan_same request i) lane.edge) (lanes_out setup.job who.number))) (marker_by request (plan_same request i))
   puts_same who view (entry.Ended lane) = refl
 
-  sent_same : (who : WorkerOf) (view : StateView) (lane : Lane) (js : List Entry) → sent ran who view lane js ≡ sent setup who view lane js
+  sent_same : (who : WorkerOf) (view : StateView) (lane : Lane) (js : List Entry) → items_sent ran who view lane js ≡ items_sent setup who view lane js
   sent_same who view lane [] = refl
   sent_same who view lane (e ∷ js) =
-      ap (λ (p : List Put). items_on lane p ++ sent ran who (after ran who view e) lane js) (puts_same who view e)
-      ∙ (ap (λ l. items_on lane (puts setup who view e) ++ sent ran who l lane js) (after_same who view e)
+      ap (λ (p : List Put). items_on lane p ++ items_sent ran who (after ran who view e) lane js) (puts_same who view e)
+      ∙ (ap (λ l. items_on lane (puts setup who view e) ++ items_sent ran who l lane js) (after_same who view e)
       ∙ ap (λ l. items_on lane (puts setup who view e) ++ l) (sent_same who (after setup who view e) lane js))
 
   came_same : (lane : ℕ) (e : Entry) → came_in ran lane e ≡ came_in setup lane e
@@ -131,8 +131,8 @@ module _ (setup : SetupView) (requests : List Request) (same : changes_of reques
   now_same : (begin : Begin) (who : WorkerOf) (counts : Counts) (js : List Entry) → view_now ran begin who counts js ≡ view_now setup begin who counts js
   now_same begin who counts js = ap (λ l. after_all ran who l js) (local_same begin.turned who counts) ∙ after_all_same who (view_at setup begin.turned who counts) js
 
-  sends_same : (begin : Begin) (who : WorkerOf) (counts : Counts) (js : List Entry) (lane : Lane) → sent ran who (view_at ran begin.turned who counts) lane js ≡ sent setup who (view_at setup begin.turned who counts) lane js
-  sends_same begin who counts js lane = ap (λ l. sent ran who l lane js) (local_same begin.turned who counts) ∙ sent_same who (view_at setup begin.turned who counts) lane js
+  sends_same : (begin : Begin) (who : WorkerOf) (counts : Counts) (js : List Entry) (lane : Lane) → items_sent ran who (view_at ran begin.turned who counts) lane js ≡ items_sent setup who (view_at setup begin.turned who counts) lane js
+  sends_same begin who counts js lane = ap (λ l. items_sent ran who l lane js) (local_same begin.turned who counts) ∙ sent_same who (view_at setup begin.turned who counts) lane js
 
   progress_same : (begin : Begin) (who : WorkerOf) (js : List Entry) → progress_now ran begin who js ≡ progress_now setup begin who js
   progress_same begin who js = ap (λ s. progress_after (initial s) js) (station_same begin.turned who)
@@ -166,11 +166,11 @@ module _ (setup : SetupView) (requests : List Request) (same : changes_of reques
     room_out = h.room_out;
   }
     where
-      each_as : (ins : List LaneInIs) → Each (IsEndpointIn setup h.graph) ins → Each (IsEndpointIn ran h.graph) ins
+      each_as : (ins : List LaneInIs) → EachOne (IsEndpointIn setup h.graph) ins → EachOne (IsEndpointIn ran h.graph) ins
       each_as [] e = tt
       each_as (a ∷ ins) e = (record { lane = e.0.lane; edge = e.0.edge; numbered = e.0.numbered; edge_is = e.0.edge_is; edge_there = e.0.edge_there; origin_is = e.0.origin_is }, each_as ins e.1)
 
-      each_as_out : (outs : List LaneOutIs) → Each (IsEndpointOut setup h.graph w.node) outs → Each (IsEndpointOut ran h.graph w.node) outs
+      each_as_out : (outs : List LaneOutIs) → EachOne (IsEndpointOut setup h.graph w.node) outs → EachOne (IsEndpointOut ran h.graph w.node) outs
       each_as_out [] e = tt
       each_as_out (a ∷ outs) e = (record { lane = e.0.lane; numbered = e.0.numbered; edge_is = e.0.edge_is; origin_is = e.0.origin_is }, each_as_out outs e.1)
 
@@ -180,13 +180,13 @@ module _ (setup : SetupView) (requests : List Request) (same : changes_of reques
     placed = placed_kept h.who w h.placed;
     begun = h.begun;
     begun_is = h.begun_is;
-    lawful = subst (λ s. IsLawful s w.journal) (sym (station_same begin.turned h.who)) h.lawful;
+    lawful = subst (λ s. IsLawfulJournal s w.journal) (sym (station_same begin.turned h.who)) h.lawful;
     func_is = func_in_same w.node w.in_force ∙ (h.func_is ∙ ap (λ (l : StateView). Some l.func) (sym (now_same begin h.who h.begun w.journal)));
     counts_is = h.counts_is ∙ ap (λ (l : StateView). l.counts) (sym (now_same begin h.who h.begun w.journal));
     last_is = h.last_is ∙ ap (λ (l : StateView). l.last) (sym (now_same begin h.who h.begun w.journal));
-    takes = subst (λ (F : ℕ → List Item). Each (λ (a : LaneInIs). a.taken ≡ F a.number ++ in_hand a.hand) w.ins) (λ i n. sym (shown_same n w.journal) i) h.takes;
+    takes = subst (λ (F : ℕ → List Item). EachOne (λ (a : LaneInIs). a.taken ≡ F a.number ++ in_hand a.hand) w.ins) (λ i n. sym (shown_same n w.journal) i) h.takes;
     steady_in = h.steady_in;
-    sends = subst (λ (F : Lane → List Item). Each (λ (out : LaneOutIs). (lane : Lane) → slice_get (lanes setup.job) out.number ≡ Some lane → planned out ≡ F lane) w.outs)
+    sends = subst (λ (F : Lane → List Item). EachOne (λ (out : LaneOutIs). (lane : Lane) → slice_get (lanes setup.job) out.number ≡ Some lane → planned out ≡ F lane) w.outs)
         (λ i lane. sym (sends_same begin h.who h.begun w.journal lane) i) h.sends;
     steady_out = h.steady_out;
     turned_is = h.turned_is;

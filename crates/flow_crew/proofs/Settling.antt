@@ -9,7 +9,7 @@ use Rattle.flow_model.specs.Lanes.{lanes}
 use Rattle.flow_model.specs.declared.topology.Lane.{Lane}
 use Rattle.lane_core.specs.Lane.{EndpointIs}
 use Rattle.flow_crew.specs.Sides.{AreMatched, AreSettled, feeder_sends, HaveAllLanes, ins_at, IsAmong, IsSettled, outs_at, side_ins, side_outs, SideIs}
-use Rattle.flow_crew.specs.Sorted.{HaveFirstLanes, changed, leads_to, leads_from, more_in, with_fed, with_out}
+use Rattle.flow_crew.specs.Sorted.{HaveFirstLanes, changed_at, leads_to, leads_from, more_in, with_fed, with_out}
 use Rattle.flow_crew.proofs.Numbers.{first_all}
 use Rattle.flow_crew.proofs.Sorting.{each_placed, lane_receiver, lane_sender, receiver_has, sender_has, unsort_in, unsort_out}
 
@@ -73,7 +73,7 @@ module _ (job : JobView) (all : List SideIs) (fed : List EndpointIs) where
     pub sorted : HaveFirstLanes job Sends Takes n n now left
 
   pub last_two : (n : ℕ) (lane : Lane) (tx rx : EndpointIs) (old middle now : List SideIs) (before left : List EndpointIs) → slice_get (lanes job) n ≡ Some lane → IsSettling (n + 1) old before
-      → old ≡ with_out lane.sender (tx ∷ []) middle → before ≡ with_fed lane.sender (tx ∷ []) left → middle ≡ changed (more_in (rx ∷ [])) lane.receiver now
+      → old ≡ with_out lane.sender (tx ∷ []) middle → before ≡ with_fed lane.sender (tx ∷ []) left → middle ≡ changed_at (more_in (rx ∷ [])) lane.receiver now
       → AreLast n lane tx rx now left
   last_two n lane tx rx old middle now before left at settling a b d =
       let s : HaveFirstLanes job Sends Takes (n + 1) (n + 1) (with_out lane.sender (tx ∷ []) middle) (with_fed lane.sender (tx ∷ []) left) =

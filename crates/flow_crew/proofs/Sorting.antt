@@ -12,34 +12,34 @@ use Rattle.flow_model.proofs.ElementLemmas.{IsIn}
 use Rattle.flow_model.proofs.LaneLemmas.{lane_is, sender_worker}
 use Rattle.flow_model.proofs.LaneNumbers.{receiver_there}
 use Rattle.flow_model.proofs.WorkerLemmas.{item_at}
-use Rattle.flow_worker.specs.Pairs.{Each}
+use Rattle.flow_worker.specs.Pairs.{EachOne}
 use Rattle.lane_core.specs.Lane.{EndpointIs}
 use Rattle.flow_worker.proofs.Pairs.{each_map}
 use Rattle.flow_crew.specs.Sides.{SideIs, ins_at, side_ins, feeder_sends, numbers_of, outs_at, side_outs}
-use Rattle.flow_crew.specs.Sorted.{HaveFirstLanes, HasLanes, changed, first_numbers, leads_to, leads_from, more_in, more_out, with_fed, with_out}
+use Rattle.flow_crew.specs.Sorted.{HaveFirstLanes, HasLanes, changed_at, first_numbers, leads_to, leads_from, more_in, more_out, with_fed, with_out}
 use Rattle.flow_crew.proofs.Numbers.{first_skipped, first_taken, last_same, not_empty}
 
 -- ---- a list that is changed at a place
 
-pub set-changed : {A : Type 0} (f : A → A) (xs : List A) (k : ℕ) (x y : A) → slice_get xs k ≡ Some x → y ≡ f x → set xs k y ≡ changed f k xs
+pub set-changed : {A : Type 0} (f : A → A) (xs : List A) (k : ℕ) (x y : A) → slice_get xs k ≡ Some x → y ≡ f x → set xs k y ≡ changed_at f k xs
 set-changed f [] k x y g e = absurd (cc)
 set-changed f (z ∷ xs) zero x y g e = let s : z ≡ x = cc in ap (λ a. a ∷ xs) (e ∙ ap f (sym s))
 set-changed f (z ∷ xs) (suc k) x y g e = ap (λ l. z ∷ l) (set-changed f xs k x y g e)
 
 -- the other way round: before the item was set, it was changed from what it is now
-pub changed-set : {A : Type 0} (f : A → A) (xs : List A) (k : ℕ) (x y : A) → slice_get xs k ≡ Some x → x ≡ f y → xs ≡ changed f k (set xs k y)
+pub changed-set : {A : Type 0} (f : A → A) (xs : List A) (k : ℕ) (x y : A) → slice_get xs k ≡ Some x → x ≡ f y → xs ≡ changed_at f k (set xs k y)
 changed-set f [] k x y g e = absurd (cc)
 changed-set f (z ∷ xs) zero x y g e = let s : z ≡ x = cc in ap (λ a. a ∷ xs) (s ∙ e)
 changed-set f (z ∷ xs) (suc k) x y g e = ap (λ l. z ∷ l) (changed-set f xs k x y g e)
 
-pub length-changed : {A : Type 0} (f : A → A) (xs : List A) (k : ℕ) → length (changed f k xs) ≡ length xs
+pub length-changed : {A : Type 0} (f : A → A) (xs : List A) (k : ℕ) → length (changed_at f k xs) ≡ length xs
 length-changed f [] zero = refl
 length-changed f [] (suc k) = refl
 length-changed f (x ∷ xs) zero = refl
 length-changed f (x ∷ xs) (suc k) = ap suc (length-changed f xs k)
 
 -- an item of a changed list: it was there, and it was changed exactly at the place
-pub get-changed : {A : Type 0} (f : A → A) (xs : List A) (k i : ℕ) (y : A) → slice_get (changed f k xs) i ≡ Some y →
+pub get-changed : {A : Type 0} (f : A → A) (xs : List A) (k i : ℕ) (y : A) → slice_get (changed_at f k xs) i ≡ Some y →
     (x : A) × (slice_get xs i ≡ Some x) × (((k ≡ i) × (y ≡ f x)) ⊎ ((k ≢ i) × (y ≡ x)))
 get-changed f [] zero i y g = absurd (cc)
 get-changed f [] (suc k) i y g = absurd (cc)
@@ -55,7 +55,7 @@ get-changed {A = A} f (x ∷ xs) (suc k) (suc i) y g = up (get-changed f xs k i 
 
 -- an item of the list before the change
 changed-get : {A : Type 0} (f : A → A) (xs : List A) (k i : ℕ) (x : A) → slice_get xs i ≡ Some x →
-    ((k ≡ i) × (slice_get (changed f k xs) i ≡ Some (f x))) ⊎ ((k ≢ i) × (slice_get (changed f k xs) i ≡ Some x))
+    ((k ≡ i) × (slice_get (changed_at f k xs) i ≡ Some (f x))) ⊎ ((k ≢ i) × (slice_get (changed_at f k xs) i ≡ Some x))
 changed-get f [] k i x g = absurd (cc)
 changed-get f (z ∷ xs) zero zero x g = let e : z ≡ x = cc in inl (refl, ap (λ a. Some (f a)) e)
 changed-get f (z ∷ xs) zero (suc i) x g = inr ((λ e. let q : zero ≡ suc i = e in absurd (cc)), g)
@@ -64,19 +64,19 @@ changed-get f (z ∷ xs) (suc k) (suc i) x g = elim (changed-get f xs k i x g) [
 
 -- ---- what holds of each item
 
-each_more : {A : Type 0} (P : A → Type 0) (xs : List A) (x : A) → Each P xs → P x → Each P (xs ++ x ∷ [])
+each_more : {A : Type 0} (P : A → Type 0) (xs : List A) (x : A) → EachOne P xs → P x → EachOne P (xs ++ x ∷ [])
 each_more P [] x e p = (p, tt)
 each_more P (y ∷ ys) x e p = (e.0, each_more P ys x e.1 p)
 
-each_fewer : {A : Type 0} (P : A → Type 0) (xs : List A) (x : A) → Each P (xs ++ x ∷ []) → Each P xs × P x
+each_fewer : {A : Type 0} (P : A → Type 0) (xs : List A) (x : A) → EachOne P (xs ++ x ∷ []) → EachOne P xs × P x
 each_fewer P [] x e = (tt, e.0)
 each_fewer P (y ∷ ys) x e = let h = each_fewer P ys x e.1 in ((e.0, h.0), h.1)
 
-pub each_placed : {A : Type 0} (P : A → Type 0) (xs : List A) → ((k : ℕ) (x : A) → slice_get xs k ≡ Some x → P x) → Each P xs
+pub each_placed : {A : Type 0} (P : A → Type 0) (xs : List A) → ((k : ℕ) (x : A) → slice_get xs k ≡ Some x → P x) → EachOne P xs
 each_placed P [] f = tt
 each_placed P (x ∷ xs) f = (f zero x refl, each_placed P xs (λ k y g. f (suc k) y g))
 
-pub each_got : {A : Type 0} (P : A → Type 0) (xs : List A) (k : ℕ) (x : A) → Each P xs → slice_get xs k ≡ Some x → P x
+pub each_got : {A : Type 0} (P : A → Type 0) (xs : List A) (k : ℕ) (x : A) → EachOne P xs → slice_get xs k ≡ Some x → P x
 each_got P [] k x e g = absurd (cc)
 each_got P (y ∷ ys) zero x e g = let s : y ≡ x = cc in subst P s e.0
 each_got P (y ∷ ys) (suc k) x e g = each_got P ys k x e.1 g
@@ -157,7 +157,7 @@ module _ (job : JobView) (P : Option ℕ → EndpointIs → Type 0) (Q : ℕ →
 
   -- the receiver's endpoint of the next lane
   pub sort_in : (j : ℕ) (end : EndpointIs) (sides : List SideIs) (fed : List EndpointIs) → end.number ≡ i → Q lane.receiver end → HaveFirstLanes job P Q j i sides fed
-      → HaveFirstLanes job P Q j (i + 1) (changed (more_in (end ∷ [])) lane.receiver sides) fed
+      → HaveFirstLanes job P Q j (i + 1) (changed_at (more_in (end ∷ [])) lane.receiver sides) fed
   sort_in j end sides fed number q h = record {
     many = length-changed (more_in (end ∷ [])) sides lane.receiver ∙ h.many;
     outs = λ w side g. of_worker w side (get-changed (more_in (end ∷ [])) sides lane.receiver w side g);
@@ -210,7 +210,7 @@ module _ (job : JobView) (P : Option ℕ → EndpointIs → Type 0) (Q : ℕ →
           many : length sides ≡ length (workers_in job)
           many = sym (length-changed (more_out (end ∷ [])) sides s) ∙ h.many
 
-          given : (w : ℕ) (side : SideIs) → s ≡ w → slice_get (changed (more_out (end ∷ [])) s sides) w ≡ Some (more_out (end ∷ []) side) → (end.number ≡ i) × P (Some w) end × HasLanes (leads_from w) job (P (Some w)) i side.outs
+          given : (w : ℕ) (side : SideIs) → s ≡ w → slice_get (changed_at (more_out (end ∷ [])) s sides) w ≡ Some (more_out (end ∷ []) side) → (end.number ≡ i) × P (Some w) end × HasLanes (leads_from w) job (P (Some w)) i side.outs
           given w side a g = give_lane job i lane at (leads_from w) (P (Some w)) side.outs end (ap (is_sender w) e ∙ eq-eqb s w a) (h.outs w (more_out (end ∷ []) side) g)
 
           of_sender : (end.number ≡ i) × P (Some s) end
@@ -221,19 +221,19 @@ module _ (job : JobView) (P : Option ℕ → EndpointIs → Type 0) (Q : ℕ →
                 | inr b ↦ absurd (b.0 refl)
               ]
 
-          of_worker : (w : ℕ) (side : SideIs) → slice_get sides w ≡ Some side → ((s ≡ w) × (slice_get (changed (more_out (end ∷ [])) s sides) w ≡ Some (more_out (end ∷ []) side))) ⊎ ((s ≢ w) × (slice_get (changed (more_out (end ∷ [])) s sides) w ≡ Some side))
+          of_worker : (w : ℕ) (side : SideIs) → slice_get sides w ≡ Some side → ((s ≡ w) × (slice_get (changed_at (more_out (end ∷ [])) s sides) w ≡ Some (more_out (end ∷ []) side))) ⊎ ((s ≢ w) × (slice_get (changed_at (more_out (end ∷ [])) s sides) w ≡ Some side))
               → HasLanes (leads_from w) job (P (Some w)) i side.outs
           of_worker w side g (inl (a, b)) = (given w side a b).2
           of_worker w side g (inr (a, b)) = pass_lane job i lane at (leads_from w) (P (Some w)) side.outs (not_leaves w lane.sender s e a) (h.outs w side b)
 
-          into_worker : (w : ℕ) (side : SideIs) → ((s ≡ w) × (slice_get (changed (more_out (end ∷ [])) s sides) w ≡ Some (more_out (end ∷ []) side))) ⊎ ((s ≢ w) × (slice_get (changed (more_out (end ∷ [])) s sides) w ≡ Some side))
+          into_worker : (w : ℕ) (side : SideIs) → ((s ≡ w) × (slice_get (changed_at (more_out (end ∷ [])) s sides) w ≡ Some (more_out (end ∷ []) side))) ⊎ ((s ≢ w) × (slice_get (changed_at (more_out (end ∷ [])) s sides) w ≡ Some side))
               → HasLanes (leads_to w) job (Q w) j side.ins
           into_worker w side (inl (a, b)) = h.ins w (more_out (end ∷ []) side) b
           into_worker w side (inr (a, b)) = h.ins w side b
 
   -- the receiver's endpoint of the last lane is taken away
   pub unsort_in : (j : ℕ) (end : EndpointIs) (sides : List SideIs) (fed : List EndpointIs) → lane.receiver < length (workers_in job)
-      → HaveFirstLanes job P Q j (i + 1) (changed (more_in (end ∷ [])) lane.receiver sides) fed → (end.number ≡ i) × Q lane.receiver end × HaveFirstLanes job P Q j i sides fed
+      → HaveFirstLanes job P Q j (i + 1) (changed_at (more_in (end ∷ [])) lane.receiver sides) fed → (end.number ≡ i) × Q lane.receiver end × HaveFirstLanes job P Q j i sides fed
   unsort_in j end sides fed lt h = (
     of_receiver.0,
     of_receiver.1,
@@ -251,7 +251,7 @@ module _ (job : JobView) (P : Option ℕ → EndpointIs → Type 0) (Q : ℕ →
       many : length sides ≡ length (workers_in job)
       many = sym (length-changed (more_in (end ∷ [])) sides lane.receiver) ∙ h.many
 
-      given : (w : ℕ) (side : SideIs) → lane.receiver ≡ w → slice_get (changed (more_in (end ∷ [])) lane.receiver sides) w ≡ Some (more_in (end ∷ []) side) → (end.number ≡ i) × Q w end × HasLanes (leads_to w) job (Q w) i side.ins
+      given : (w : ℕ) (side : SideIs) → lane.receiver ≡ w → slice_get (changed_at (more_in (end ∷ [])) lane.receiver sides) w ≡ Some (more_in (end ∷ []) side) → (end.number ≡ i) × Q w end × HasLanes (leads_to w) job (Q w) i side.ins
       given w side a g = give_lane job i lane at (leads_to w) (Q w) side.ins end (eq-eqb lane.receiver w a) (h.ins w (more_in (end ∷ []) side) g)
 
       of_receiver : (end.number ≡ i) × Q lane.receiver end
@@ -262,12 +262,12 @@ module _ (job : JobView) (P : Option ℕ → EndpointIs → Type 0) (Q : ℕ →
             | inr b ↦ absurd (b.0 refl)
           ]
 
-      of_worker : (w : ℕ) (side : SideIs) → ((lane.receiver ≡ w) × (slice_get (changed (more_in (end ∷ [])) lane.receiver sides) w ≡ Some (more_in (end ∷ []) side))) ⊎ ((lane.receiver ≢ w) × (slice_get (changed (more_in (end ∷ [])) lane.receiver sides) w ≡ Some side))
+      of_worker : (w : ℕ) (side : SideIs) → ((lane.receiver ≡ w) × (slice_get (changed_at (more_in (end ∷ [])) lane.receiver sides) w ≡ Some (more_in (end ∷ []) side))) ⊎ ((lane.receiver ≢ w) × (slice_get (changed_at (more_in (end ∷ [])) lane.receiver sides) w ≡ Some side))
           → HasLanes (leads_from w) job (P (Some w)) j side.outs
       of_worker w side (inl (a, b)) = h.outs w (more_in (end ∷ []) side) b
       of_worker w side (inr (a, b)) = h.outs w side b
 
-      into_worker : (w : ℕ) (side : SideIs) → ((lane.receiver ≡ w) × (slice_get (changed (more_in (end ∷ [])) lane.receiver sides) w ≡ Some (more_in (end ∷ []) side))) ⊎ ((lane.receiver ≢ w) × (slice_get (changed (more_in (end ∷ [])) lane.receiver sides) w ≡ Some side))
+      into_worker : (w : ℕ) (side : SideIs) → ((lane.receiver ≡ w) × (slice_get (changed_at (more_in (end ∷ [])) lane.receiver sides) w ≡ Some (more_in (end ∷ []) side))) ⊎ ((lane.receiver ≢ w) × (slice_get (changed_at (more_in (end ∷ [])) lane.receiver sides) w ≡ Some side))
           → HasLanes (leads_to w) job (Q w) i side.ins
       into_worker w side (inl (a, b)) = (given w side a b).2
       into_worker w side (inr (a, b)) = pass_lane job i lane at (leads_to w) (Q w) side.ins (not_leads w lane.receiver a) (h.ins w side b)

@@ -8,7 +8,7 @@ use Rattle.flow_model.specs.SetupView.{SetupView}
 use Rattle.flow_model.specs.Requests.{afters}
 use Rattle.flow_model.specs.Run.{Ran, ran_as}
 use Rattle.flow_model.specs.Workers.{workers_in}
-use Rattle.flow_worker.specs.Pairs.{Each}
+use Rattle.flow_worker.specs.Pairs.{EachOne}
 use Rattle.flow_worker.specs.Parts.{WorkedIs}
 use Rattle.flow_worker.specs.Turning.{IsDone}
 use Rattle.flow_worker.specs.Worker.{WorkerIs}
@@ -22,7 +22,7 @@ pub record IsOver (setup : SetupView) (begin : Begin) (rows : List Row) (workers
     (feeds : List Feed) (outs : List EndpointIs) : Type 0 where
   pub starts : length begin.states ≡ length (workers_in setup.job)
   pub crew : IsCrew setup begin workers
-  pub done : Each IsDone workers
+  pub done : EachOne IsDone workers
   pub matched : AreMatched (map worker_side workers) outs
   pub feeder : FeederIs
   pub feeding : IsFeeding setup begin (afters setup.requests) rows feeder

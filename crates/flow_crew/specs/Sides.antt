@@ -8,7 +8,7 @@ use Rattle.flow_model.specs.Lanes.{is_same_sender, lanes, lanes_in, lanes_that, 
 use Rattle.flow_model.specs.declared.topology.Lane.{Lane}
 use Rattle.flow_model.specs.Workers.{workers_in}
 use Rattle.flow_worker.specs.Endpoints.{LaneInIs, LaneOutIs}
-use Rattle.flow_worker.specs.Pairs.{Each}
+use Rattle.flow_worker.specs.Pairs.{EachOne}
 use Rattle.flow_worker.specs.Parts.{endpoint_in, endpoint_out}
 use Rattle.flow_worker.specs.Worker.{WorkerIs}
 
@@ -55,7 +55,7 @@ pub record HaveAllLanes (job : JobView) (sides : List SideIs) (fed : List Endpoi
 abbrev pub HoldAtMost : ℕ → List SideIs → Type 0
 HoldAtMost cap sides =
     (w : ℕ) (side : SideIs) → slice_get sides w ≡ Some side →
-    Each (λ (end : EndpointIs). end.lane.capacity ≡ cap) side.outs
+    EachOne (λ (end : EndpointIs). end.lane.capacity ≡ cap) side.outs
 
 -- the endpoints of the worker with this number, of no worker if there is none
 abbrev pub side_ins : Option SideIs → List EndpointIs

@@ -8,15 +8,15 @@ use Rattle.lane_core.specs.Lane.{EndpointIs, LaneId}
 use Rattle.flow_model.specs.Lanes.{is_sender, lanes}
 use Rattle.flow_model.specs.declared.topology.Lane.{Lane}
 use Rattle.flow_model.specs.Workers.{workers_in}
-use Rattle.flow_worker.specs.Pairs.{Each}
+use Rattle.flow_worker.specs.Pairs.{EachOne}
 use Rattle.flow_model.specs.NewEndpoint.{IsNewEndpoint}
 use Rattle.flow_crew.specs.Sides.{SideIs, feeder_sends, numbers_of}
 
 -- the item at a place is changed
-abbrev pub changed : {A : Type 0} → (A → A) → ℕ → List A → List A
-changed f k [] = []
-changed f zero (x ∷ xs) = f x ∷ xs
-changed f (suc k) (x ∷ xs) = x ∷ changed f k xs
+abbrev pub changed_at : {A : Type 0} → (A → A) → ℕ → List A → List A
+changed_at f k [] = []
+changed_at f zero (x ∷ xs) = f x ∷ xs
+changed_at f (suc k) (x ∷ xs) = x ∷ changed_at f k xs
 
 -- a side with further endpoints
 abbrev pub more_in : List EndpointIs → SideIs → SideIs
@@ -28,7 +28,7 @@ more_out ends side = record { ins = side.ins; outs = side.outs ++ ends }
 -- further endpoints at the sender, if it is a worker, or else at the feeder
 abbrev pub with_out : Option ℕ → List EndpointIs → List SideIs → List SideIs
 with_out None ends sides = sides
-with_out (Some worker) ends sides = changed (more_out ends) worker sides
+with_out (Some worker) ends sides = changed_at (more_out ends) worker sides
 
 abbrev pub with_fed : Option ℕ → List EndpointIs → List EndpointIs → List EndpointIs
 with_fed None ends fed = fed ++ ends
@@ -44,7 +44,7 @@ first_numbers test job i =
 pub record HasLanes (test : Lane → Bool) (job : JobView) (P : EndpointIs → Type 0) (i : ℕ)
     (ends : List EndpointIs) : Type 0 where
   pub numbers : numbers_of ends ≡ first_numbers test job i
-  pub each : Each P ends
+  pub each : EachOne P ends
 
 abbrev pub leads_to : ℕ → Lane → Bool
 leads_to worker lane = lane.receiver == worker
@@ -66,7 +66,7 @@ pub record HaveFirstLanes (job : JobView) (P : Option ℕ → EndpointIs → Typ
 -- each of these is a new endpoint of the lane with this number
 abbrev pub AreNewAt : JobView → Graph → ℕ → List EndpointIs → Type 0
 AreNewAt job graph number ends =
-    Each (λ (end : EndpointIs). (end.number ≡ number) × IsNewEndpoint job graph end) ends
+    EachOne (λ (end : EndpointIs). (end.number ≡ number) × IsNewEndpoint job graph end) ends
 
 -- a new endpoint of the lane that the list has at its number
 abbrev pub IsMarked : JobView → Graph → List LaneId → EndpointIs → Type 0
@@ -74,8 +74,8 @@ IsMarked job graph marks end =
     IsNewEndpoint job graph end × (slice_get marks end.number ≡ Some end.lane)
 
 -- the new endpoints of the first i lanes, which are the lanes of this list
-abbrev pub AreMarked : JobView → Graph → ℕ → List LaneId → List SideIs → List EndpointIs → Type 0
-AreMarked job graph i marks sides fed =
+abbrev pub AreAllMarked : JobView → Graph → ℕ → List LaneId → List SideIs → List EndpointIs → Type 0
+AreAllMarked job graph i marks sides fed =
     (length marks ≡ i)
     × HaveFirstLanes job (λ sender. IsMarked job graph marks)
     (λ worker. IsMarked job graph marks) i i

@@ -7,7 +7,8 @@ ghost use Rattle.flow_model.specs.Workers.{workers_in};
 ghost use Rattle.flow_worker.specs.Parts.{AreNewEndpoints};
 ghost use Rattle.coordinator.specs.Starts.{AreNewOuts};
 ghost use Rattle.flow_crew.specs.Sides.{AreMatched, HoldAtMost, SideIs, empty_side};
-ghost use Rattle.flow_crew.specs.Sorted.{AreNewAt, changed, more_in, more_out, with_fed, with_out};
+ghost use Rattle.flow_crew.specs.Sorted.{AreNewAt, changed_at, more_in, more_out, with_fed};
+ghost use Rattle.flow_crew.specs.Sorted.{with_out};
 
 use crate::Side;
 use flow_dag::Graph;
@@ -116,7 +117,7 @@ fn add_out<L: Lanes>(
 fn add_out_at<L: Lanes>(workers: &mut [Side<L>], worker: u32, tx: L::Tx) -> Result<(), NoMemory>
     requires { worker < length workers.old }
     ensures { OnOk result (workers.new
-        ≡ changed (more_out (L.Tx.state tx ∷ [])) worker workers.old) }
+        ≡ changed_at (more_out (L.Tx.state tx ∷ [])) worker workers.old) }
 {
     workers[worker as usize].push_out(tx)
 }
@@ -124,7 +125,7 @@ fn add_out_at<L: Lanes>(workers: &mut [Side<L>], worker: u32, tx: L::Tx) -> Resu
 fn add_in<L: Lanes>(workers: &mut [Side<L>], worker: u32, rx: L::Rx) -> Result<(), NoMemory>
     requires { worker < length workers.old }
     ensures { OnOk result (workers.new
-        ≡ changed (more_in (L.Rx.state rx ∷ [])) worker workers.old) }
+        ≡ changed_at (more_in (L.Rx.state rx ∷ [])) worker workers.old) }
 {
     workers[worker as usize].push_in(rx)
 }

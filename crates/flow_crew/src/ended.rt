@@ -5,7 +5,7 @@ ghost use Rattle.flow_model.specs.Begin.{Begin};
 ghost use Rattle.flow_model.specs.SetupView.{SetupView};
 ghost use Rattle.flow_model.specs.Run.{IsRunSince};
 ghost use Rattle.flow_model.specs.Setup.{setup_view};
-ghost use Rattle.flow_worker.specs.Pairs.{Each};
+ghost use Rattle.flow_worker.specs.Pairs.{EachOne};
 ghost use Rattle.flow_worker.specs.Turning.{IsDone};
 ghost use Rattle.flow_worker.specs.Worker.{WorkerIs};
 ghost use Rattle.flow_crew.specs.Ended.{IsOver, record_of, worked_of};
@@ -62,9 +62,9 @@ type Finished<L> = (Vec<Worked<L>>, Vec<Side<L>>);
 
 // Takes workers apart that are done.
 fn finish_all<L: Lanes>(alloc: Global, workers: Vec<Worker<L>>) -> Result<Finished<L>, NoMemory>
-    requires done { Each IsDone workers.items }
-    requires room_in { Each (λ (w : WorkerIs). length w.ins ≤ w.spare_in) workers.items }
-    requires room_out { Each (λ (w : WorkerIs). length w.outs ≤ w.spare_out) workers.items }
+    requires done { EachOne IsDone workers.items }
+    requires room_in { EachOne (λ (w : WorkerIs). length w.ins ≤ w.spare_in) workers.items }
+    requires room_out { EachOne (λ (w : WorkerIs). length w.outs ≤ w.spare_out) workers.items }
     ensures workers { IfOk result (λ all. all.0.items ≡ map worked_of workers.items) }
     ensures sides { IfOk result (λ all. all.1.items ≡ map worker_side workers.items) }
 {

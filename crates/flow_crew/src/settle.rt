@@ -2,7 +2,7 @@
 ghost use Rattle.std.specs.Prelude.{◌≡◌, ◌<◌, ◌∷◌, [], IfNone, IfSome, OnOk, Some, length, map};
 ghost use Rattle.flow_model.specs.Setup.{setup_view};
 ghost use Rattle.flow_crew.specs.Sides.{AreMatched, AreSettled, HaveAllLanes, ins_at, outs_at};
-ghost use Rattle.flow_crew.specs.Sorted.{changed, more_in, more_out, with_fed, with_out};
+ghost use Rattle.flow_crew.specs.Sorted.{changed_at, more_in, more_out, with_fed, with_out};
 
 use crate::Side;
 use flow_model::Setup;
@@ -68,7 +68,7 @@ fn take_out<L: Lanes>(
 fn take_out_at<L: Lanes>(sides: &mut [Side<L>], worker: u32) -> Option<L::Tx>
     requires { worker < length sides.old }
     ensures some { IfSome result (λ tx. sides.old
-        ≡ changed (more_out (L.Tx.state tx ∷ [])) worker sides.new) }
+        ≡ changed_at (more_out (L.Tx.state tx ∷ [])) worker sides.new) }
     ensures none { IfNone result (outs_at (Some worker) sides.old [] ≡ []) }
 {
     sides[worker as usize].pop_out()
@@ -78,7 +78,7 @@ fn take_out_at<L: Lanes>(sides: &mut [Side<L>], worker: u32) -> Option<L::Tx>
 fn take_in<L: Lanes>(sides: &mut [Side<L>], worker: u32) -> Option<L::Rx>
     requires { worker < length sides.old }
     ensures some { IfSome result (λ rx. sides.old
-        ≡ changed (more_in (L.Rx.state rx ∷ [])) worker sides.new) }
+        ≡ changed_at (more_in (L.Rx.state rx ∷ [])) worker sides.new) }
     ensures none { IfNone result (ins_at worker sides.old ≡ []) }
 {
     sides[worker as usize].pop_in()

@@ -10,7 +10,7 @@ use Rattle.flow_model.specs.SetupView.{SetupView}
 use Rattle.flow_model.specs.Waiting.{with_afters}
 use Rattle.coordinator.specs.Boxes.{AreBoxes}
 use Rattle.coordinator.specs.Feeding.{AreRising, IsFeeding}
-use Rattle.coordinator.specs.Numbers.{covered_to, number_of, node_at, posted_number}
+use Rattle.coordinator.specs.Numbers.{covered_to, covering_count, node_at, posted_number}
 use Rattle.coordinator.specs.Views.{BoxesIs, FeederIs}
 
 -- ---- the rows
@@ -37,7 +37,7 @@ module _ (setup : SetupView) (requests : List Request) where
   covered_same node zero = refl
   covered_same node (suc r) = ap (λ k. cond (covers setup (suc r) node) (suc k) k) (covered_same node r)
 
-  number_same : (turned w r : ℕ) → number_of moved turned w r ≡ number_of setup turned w r
+  number_same : (turned w r : ℕ) → covering_count moved turned w r ≡ covering_count setup turned w r
   number_same turned w r = λ i. covered_same (node_at setup w) r i - covered_same (node_at setup w) turned i
 
   posted_same : (turned w r : ℕ) → posted_number moved turned w r ≡ posted_number setup turned w r

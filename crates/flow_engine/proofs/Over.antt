@@ -20,20 +20,20 @@ use Rattle.flow_model.specs.Workers.{workers_in}
 use Rattle.flow_model.specs.declared.setup.Setup.{Setup}
 use Rattle.flow_model.proofs.WaitingLemmas.{changes-with_afters}
 use Rattle.flow_worker.specs.Endpoints.{LaneInIs, LaneOutIs}
-use Rattle.flow_worker.specs.Pairs.{Each}
+use Rattle.flow_worker.specs.Pairs.{EachOne}
 use Rattle.flow_worker.specs.Parts.{WorkedIs}
 use Rattle.flow_worker.specs.Turning.{IsDone}
 use Rattle.flow_worker.specs.Worker.{WorkerIs}
 use Rattle.coordinator.specs.Feeding.{AreRising, IsFeeder, IsFeeding, issue_rows, waits}
 use Rattle.coordinator.specs.Views.{FeederIs}
-use Rattle.flow_runners.specs.Crew.{AreWorkers, fixed_in, number_in}
+use Rattle.flow_runners.specs.Crew.{AreWorkers, fixed_in, crew_number}
 use Rattle.flow_runner.specs.Runner.{EndpointsIs, end_in, end_out}
 use Rattle.flow_crew.specs.Crews.{IsCrew}
 use Rattle.flow_crew.specs.Ended.{IsOver, record_of, worked_of}
 use Rattle.flow_crew.specs.Sides.{AreMatched, lane_ids, worker_side}
 use Rattle.flow_runners.proofs.Crewing.{in_order}
 use Rattle.coordinator.proofs.Recording.{all_issued, all_waited}
-use Rattle.flow_engine.specs.Flown.{number_of}
+use Rattle.flow_engine.specs.Flown.{number_worked}
 use Rattle.flow_engine.specs.Recorded.{IsRecorded, NoneIsEarly, recorded}
 use Rattle.flow_engine.specs.inner.Turns.{AreWaits, HasRun, IsFirst}
 use Rattle.flow_engine.proofs.Moving.{afters_are, feeding_moved}
@@ -73,14 +73,14 @@ to_crew : (setup : SetupView) (begin : Begin) (new old : List WorkerIs) → map 
 to_crew setup begin new old same crew are = record { many = same_many new old same ∙ crew.many; number = are.number; law = are.law }
 
 -- a worker leaves its number
-leaves_number : (ws : List WorkerIs) → map number_of (map worked_of ws) ≡ map number_in ws
+leaves_number : (ws : List WorkerIs) → map number_worked (map worked_of ws) ≡ map crew_number ws
 leaves_number [] = refl
 leaves_number (w ∷ ws) = ap (λ (ks : List ℕ). w.number ∷ ks) (leaves_number ws)
 
 pub numbers_after : (setup : SetupView) (begin begun : Begin) (new old : List WorkerIs) (left : List WorkedIs) → map fixed_in new ≡ map fixed_in old → IsCrew setup begun old → AreWorkers setup begin new
-    → left ≡ map worked_of new → map number_of left ≡ range_with_len 0 (length (workers_in setup.job))
+    → left ≡ map worked_of new → map number_worked left ≡ range_with_len 0 (length (workers_in setup.job))
 numbers_after setup begin begun new old left same crew are is =
-    ap (map number_of) is ∙ (leaves_number new ∙ (in_order new are.number ∙ ap (range_with_len 0) (same_many new old same ∙ crew.many)))
+    ap (map number_worked) is ∙ (leaves_number new ∙ (in_order new are.number ∙ ap (range_with_len 0) (same_many new old same ∙ crew.many)))
 
 -- ---- the end of the turns
 
@@ -91,7 +91,7 @@ pub record HasTurned (live : Bool) (setup : SetupView) (begin : Begin) (rows : L
   pub crew : IsCrew setup begin old
   pub matched : AreMatched (map worker_side old) fed
   pub are : AreWorkers setup begin new
-  pub done : Each IsDone new
+  pub done : EachOne IsDone new
   pub same : map fixed_in new ≡ map fixed_in old
   pub law : IsFeeder live setup begin rows f
   pub endpoints : map end_of f.outs ≡ map end_of fed

@@ -5,12 +5,12 @@ use Rattle.flow_model.specs.declared.record.RunRecord.{RunRecord}
 use Rattle.flow_model.specs.declared.setup.Setup.{Setup}
 use Rattle.flow_worker.specs.Parts.{WorkedIs}
 
-abbrev pub number_of : WorkedIs → ℕ
-number_of worked = worked.number
+abbrev pub number_worked : WorkedIs → ℕ
+number_worked worked = worked.number
 
 -- the record of a run: its setup and its feed, and the journals and the counts of its workers
-abbrev pub record_of : Setup → List Feed → List WorkedIs → RunRecord
-record_of setup feeds crew = record {
+abbrev pub flown_record : Setup → List Feed → List WorkedIs → RunRecord
+flown_record setup feeds crew = record {
   setup = setup;
   feeds = feeds;
   journals = map (λ (w : WorkedIs). w.journal) crew;

@@ -1,7 +1,7 @@
 // What a run leaves.
 ghost use Rattle.std.specs.Prelude.{◌≡◌, ◌++◌, [], IfOk, map};
 ghost use Rattle.flow_worker.specs.Parts.{WorkedIs};
-ghost use Rattle.flow_engine.specs.Flown.{record_of};
+ghost use Rattle.flow_engine.specs.Flown.{flown_record};
 
 use flow_model::{RunRecord, Setup, States};
 use flow_worker::{Opened, Worked};
@@ -25,7 +25,7 @@ pub struct Flown<L: Lanes> {
 impl<L: Lanes> Flown<L> {
     /// The record of the run. The one error is out of memory; it gives up what the run left.
     pub fn record(self, alloc: Global) -> Result<RunRecord, NoMemory>
-        ensures { IfOk result (λ ran. ran ≡ record_of self.setup self.feeds self.crew.items) }
+        ensures { IfOk result (λ ran. ran ≡ flown_record self.setup self.feeds self.crew.items) }
     {
         let Flown { setup, feeds, crew } = self;
         let Left { journals, states } = left_by(alloc, crew)?;

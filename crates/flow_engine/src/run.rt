@@ -13,7 +13,7 @@ ghost use Rattle.flow_crew.specs.Crews.{IsCrew};
 ghost use Rattle.flow_crew.specs.Ended.{record_of};
 ghost use Rattle.flow_crew.specs.Sides.{AreMatched, worker_side};
 ghost use Rattle.flow_runners.specs.Crew.{IsFeederOf, setup_in};
-ghost use Rattle.flow_engine.specs.Flown.{number_of};
+ghost use Rattle.flow_engine.specs.Flown.{number_worked};
 ghost use Rattle.flow_engine.specs.Recorded.{IsRecorded, NoneIsEarly};
 ghost use Rattle.flow_engine.specs.inner.Turns.{HasRun, IsFirst};
 
@@ -48,7 +48,7 @@ where
     R: Threads + Wait + Sync,
     requires rows { AreFromSources (setup_view setup).job rows.now }
     ensures setup { IfOk result (λ flown. flown.setup ≡ setup) }
-    ensures crew { IfOk result (λ flown. map number_of flown.crew.items
+    ensures crew { IfOk result (λ flown. map number_worked flown.crew.items
         ≡ range_with_len 0 (length (workers_in (setup_view setup).job))) }
     ensures run { IfOk result (λ flown. IsRun (setup_view setup) rows.now
         (record_of (setup_view setup) flown.feeds flown.crew.items)) }
@@ -82,7 +82,7 @@ where
     ensures waits { IfOk result (λ (flown, rest). NoneIsEarly (length rows.now)
         (setup_view setup).requests (setup_view flown.setup).requests) }
     ensures kept { IfOk result (λ (flown, rest). F.kept seed flown.feeds rest) }
-    ensures crew { IfOk result (λ (flown, rest). map number_of flown.crew.items
+    ensures crew { IfOk result (λ (flown, rest). map number_worked flown.crew.items
         ≡ range_with_len 0 (length (workers_in (setup_view setup).job))) }
     ensures run { IfOk result (λ (flown, rest). IsRun (setup_view flown.setup) rows.now
         (record_of (setup_view flown.setup) flown.feeds flown.crew.items)) }
@@ -119,7 +119,7 @@ where
     requires turned { start.turned ≤ length (setup_view setup).requests }
     requires states { length start.states ≡ length (workers_in (setup_view setup).job) }
     ensures setup { IfOk result (λ flown. flown.setup ≡ setup) }
-    ensures crew { IfOk result (λ flown. map number_of flown.crew.items
+    ensures crew { IfOk result (λ flown. map number_worked flown.crew.items
         ≡ range_with_len 0 (length (workers_in (setup_view setup).job))) }
     ensures run { IfOk result (λ flown. IsRunSince start (setup_view setup) rows.now
         (record_of (setup_view setup) flown.feeds flown.crew.items)) }

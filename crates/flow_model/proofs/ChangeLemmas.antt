@@ -7,12 +7,12 @@ use Rattle.versions.specs.Judged.{AreAccepted}
 use Rattle.versions.specs.Kept.{CarriesWell}
 use Rattle.versions.proofs.CarryLemmas.{accepted-carry}
 use Rattle.flow_model.specs.SetupView.{SetupView}
-use Rattle.flow_model.specs.Requests.{change_among, change_of}
+use Rattle.flow_model.specs.Requests.{change_among, change_by}
 use Rattle.flow_model.proofs.ElementLemmas.{at_of_all}
 use Rattle.flow_model.proofs.KindLemmas.{change_there}
 
 -- a change of an accepted request can carry
-pub change-carry : (setup : SetupView) (request node : ℕ) (change : Change) → AreAccepted setup.job setup.requests → change_of setup request node ≡ Some change → CanCarry change.carry
+pub change-carry : (setup : SetupView) (request node : ℕ) (change : Change) → AreAccepted setup.job setup.requests → change_by setup request node ≡ Some change → CanCarry change.carry
 change-carry setup r node change are e =
     let (request, asked, among, at) = change_there setup r node change e in
     let all : CarriesWell request = at_of_all CarriesWell request setup.requests (accepted-carry setup.job setup.requests are) asked in

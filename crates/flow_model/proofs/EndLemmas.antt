@@ -5,10 +5,10 @@ use Rattle.sink_journal.specs.declared.journal.Entry.TheVariants.{Met, Marked, T
 use Rattle.versions.specs.declared.request.Change.{Change}
 use Rattle.flow_model.specs.Law.{Progress, after_entry, progress_after}
 use Rattle.flow_model.specs.SetupView.{SetupView, Worker}
-use Rattle.flow_model.specs.Replay.{StateView, after, after_all, with_change}
-use Rattle.flow_model.specs.Requests.{change_of}
+use Rattle.flow_model.specs.Replay.{StateView, after, after_all, after_change}
+use Rattle.flow_model.specs.Requests.{change_by}
 
-ended_with : (o : Option Change) (view : StateView) → (with_change o view).ended ≡ view.ended
+ended_with : (o : Option Change) (view : StateView) → (after_change o view).ended ≡ view.ended
 ended_with None view = refl
 ended_with (Some change) view = refl
 
@@ -25,7 +25,7 @@ ended_counts setup who view p (Marked l r ∷ more) =
 ended_counts setup who view p (Turned r ∷ more) =
     ended_counts setup who (after setup who view (Turned r)) (after_entry p (Turned r)) more
     ∙ ap (λ n. n + length (progress_after (after_entry p (Turned r)) more).ended)
-    (ended_with (change_of setup r who.node) view)
+    (ended_with (change_by setup r who.node) view)
 ended_counts setup who view p (Ended l ∷ more) =
     shift (after_all setup who (record view { ended = view.ended + 1 }) more).ended
     (length p.ended) view.ended

@@ -19,7 +19,7 @@ use Rattle.flow_model.specs.Feeding.{fed, fed_puts}
 use Rattle.flow_model.specs.Lanes.{is_same_lane, is_sender, lanes, lanes_in}
 use Rattle.flow_model.specs.declared.topology.Lane.{Lane}
 use Rattle.flow_model.specs.SetupView.{SetupView, Worker}
-use Rattle.flow_model.specs.Replay.{StateView, Put, after, came_in, item_on, items_on, marker, marker_by, puts, sent, shown}
+use Rattle.flow_model.specs.Replay.{StateView, Put, after, came_in, item_on, items_on, marker, marker_by, puts, items_sent, shown}
 use Rattle.flow_model.specs.Run.{Ran}
 use Rattle.flow_model.specs.Workers.{workers_in}
 use Rattle.flow_model.proofs.ElementLemmas.{IsIn, in_of_place}
@@ -193,7 +193,7 @@ module _ (V : ℕ → Tuple → ℕ) (job : JobView) (test : Lane → Bool) wher
 -- ---- all that a worker puts
 
 pub sent-puts : (setup : SetupView) (who : Worker) (view : StateView) (lane : Lane) (journal : List Entry)
-    → sent setup who view lane journal ≡ items_on lane (flat_map (λ (m : Moment). puts setup who m.view m.entry) (story setup who view journal))
+    → items_sent setup who view lane journal ≡ items_on lane (flat_map (λ (m : Moment). puts setup who m.view m.entry) (story setup who view journal))
 sent-puts setup who view lane [] = refl
 sent-puts setup who view lane (x ∷ journal) =
     ap (λ (later : List Item). items_on lane (puts setup who view x) ++ later) (sent-puts setup who (after setup who view x) lane journal)
@@ -283,8 +283,8 @@ module _ (rows : List Row) (ran : Ran) (g : Running rows ran) (V : ℕ → Tuple
               ap (total V (lane_to ran.setup.job lane)) tie
               ∙ omega (arith, sum_append (weigh V (lane_to ran.setup.job lane)) (fed ran.setup.job rows 0 lane ran.feeds) (item.Last ∷ []), feeds, none_sent lane none)
           by_sender (inr (s, some, from)) =
-              let tie : shown ran.setup n (journal_of ran is.to.number) ≡ sent ran.setup (worker_no ran.setup s) (begun ran.setup s) lane (journal_of ran s) =
-              subst (λ (l : Lane). shown ran.setup n (journal_of ran is.to.number) ≡ sent ran.setup (worker_no ran.setup s) (begun ran.setup s) l (journal_of ran s)) same
+              let tie : shown ran.setup n (journal_of ran is.to.number) ≡ items_sent ran.setup (worker_no ran.setup s) (begun ran.setup s) lane (journal_of ran s) =
+              subst (λ (l : Lane). shown ran.setup n (journal_of ran is.to.number) ≡ items_sent ran.setup (worker_no ran.setup s) (begun ran.setup s) l (journal_of ran s)) same
               (sent_there rows ran g n is.to.number s st.within from.within k (ap (λ (l : Lane). l.sender) same ∙ some)) in
               let feeds : from_feeder lane ≡ 0 = rw some refl in
               ap (total V (lane_to ran.setup.job lane)) (tie ∙ sent-puts ran.setup (worker_no ran.setup s) (begun ran.setup s) lane (journal_of ran s))

@@ -16,7 +16,7 @@ use Rattle.tuple_trace.specs.declared.tuple.Tuple.{Tuple}
 use Rattle.versions.specs.Kept.{AreInOrder}
 use Rattle.versions.specs.declared.request.Request.{Request}
 use Rattle.flow_model.specs.Covers.{covers, heads, is_head}
-use Rattle.flow_model.specs.Feeding.{fed_put, fed_puts, fed_tuple, feed_after, feed_from, issued_after, issued_at_first, issued_where, row_at}
+use Rattle.flow_model.specs.Feeding.{fed_put, fed_puts, fed_tuple, feed_after, feed_from, issued_after, issued_at_first, issued_where, row_numbered}
 use Rattle.flow_model.specs.Fresh.{AreFreshFrom, IsFresh, IsFreshAt, IsFreshBefore, IsFreshUnder, IsHeadBefore, IsUpTo}
 use Rattle.flow_model.specs.Law.{IsEnabled, IsExecution, IsInTime, Progress, after_entry, initial, later_dues, next_due}
 use Rattle.flow_model.specs.SetupView.{SetupView, Worker}
@@ -103,21 +103,21 @@ past_issued job rows test total r issued (after ∷ waits) more = go (test (min 
 record CountsIssued (rows : List Row) (total : ℕ) (waits : List ℕ) (p : Put) : Type 0 where
   before : ℕ
   row : Row
-  there : row_at rows (before + 1) ≡ Some row
+  there : row_numbered rows (before + 1) ≡ Some row
   item_is : p.item ≡ item.Carry (fed_tuple (count_to before total waits) row)
 
 after_counts : (job : JobView) (rows : List Row) (waits : List ℕ) (r row total left : ℕ) (p : Put)
     → IsIn p (fed_puts job rows (count_to row total waits) (feed_after waits r row total left)) → CountsIssued rows total waits p
 after_counts job rows waits r row total zero p h = absurd h
 after_counts job rows waits r row total (suc left) p h =
-    elim (in_cases p (fed_put job (count_to row total waits) (row_at rows (row + 1))) (fed_puts job rows (count_to row total waits) (issued_after (row + 1) total r waits ++ feed_after waits r (row + 1) total left)) h) [
-      | inl a ↦ here (row_at rows (row + 1)) refl a
+    elim (in_cases p (fed_put job (count_to row total waits) (row_numbered rows (row + 1))) (fed_puts job rows (count_to row total waits) (issued_after (row + 1) total r waits ++ feed_after waits r (row + 1) total left)) h) [
+      | inl a ↦ here (row_numbered rows (row + 1)) refl a
       | inr b ↦ after_counts job rows waits r (row + 1) total left p (
           subst (λ n. IsIn p (fed_puts job rows n (feed_after waits r (row + 1) total left))) (count_next row total r waits)
           (subst (λ (l : List Put). IsIn p l) (past_issued job rows (λ after. after == row + 1) total r (count_to row total waits) waits (feed_after waits r (row + 1) total left)) b))
     ]
   where
-    here : (o : Option Row) → row_at rows (row + 1) ≡ o → IsIn p (fed_put job (count_to row total waits) o) → CountsIssued rows total waits p
+    here : (o : Option Row) → row_numbered rows (row + 1) ≡ o → IsIn p (fed_put job (count_to row total waits) o) → CountsIssued rows total waits p
     here None e i = absurd i
     here (Some x) e (inl q) = record { before = row; row = x; there = e; item_is = ap (λ (p : Put). p.item) q }
     here (Some x) e (inr n) = absurd n

@@ -7,11 +7,11 @@ use Rattle.sink_journal.specs.declared.journal.Entry.TheVariants as entry
 use Rattle.tuple_trace.specs.declared.tuple.Item.{Item}
 use Rattle.flow_model.specs.declared.topology.Lane.{Lane}
 use Rattle.flow_model.specs.SetupView.{SetupView, Worker}
-use Rattle.flow_model.specs.Law.{IsEnabled, IsExecution, IsInTime, IsLawful, Progress, Duties, after_entry, initial, later_dues, next_due, progress_after}
+use Rattle.flow_model.specs.Law.{IsEnabled, IsExecution, IsInTime, IsLawfulJournal, Progress, Duties, after_entry, initial, later_dues, next_due, progress_after}
 use Rattle.flow_model.specs.Points.{EndEntriesStandLast, EndOtherLanes, HasPoints, HeadsAreInTime}
 use Rattle.flow_model.specs.Points.{LeadsToTurn, MarkersLeadToTheirTurn, MayStandAtItsPlace}
 use Rattle.flow_model.specs.Points.{TurnsFirst, TurnsFollowTheirMarkers, markers, turned}
-use Rattle.flow_model.specs.Replay.{StateView, after, after_all, came_in, items_on, puts, sent, shown}
+use Rattle.flow_model.specs.Replay.{StateView, after, after_all, came_in, items_on, puts, items_sent, shown}
 
 pub after_all-append : (setup : SetupView) (who : Worker) (view : StateView) (xs ys : List Entry)
     → after_all setup who view (xs ++ ys) ≡ after_all setup who (after_all setup who view xs) ys
@@ -19,13 +19,13 @@ after_all-append setup who view [] ys = refl
 after_all-append setup who view (x ∷ xs) ys = after_all-append setup who (after setup who view x) xs ys
 
 pub sent-append : (setup : SetupView) (who : Worker) (view : StateView) (lane : Lane) (xs ys : List Entry)
-    → sent setup who view lane (xs ++ ys) ≡ sent setup who view lane xs ++ sent setup who (after_all setup who view xs) lane ys
+    → items_sent setup who view lane (xs ++ ys) ≡ items_sent setup who view lane xs ++ items_sent setup who (after_all setup who view xs) lane ys
 sent-append setup who view lane [] ys = refl
 sent-append setup who view lane (x ∷ xs) ys =
     let here : List Item = items_on lane (puts setup who view x) in
     let next : StateView = after setup who view x in
     ap (λ (items : List Item). here ++ items) (sent-append setup who next lane xs ys)
-    ∙ sym (append_assoc here (sent setup who next lane xs) (sent setup who (after_all setup who next xs) lane ys))
+    ∙ sym (append_assoc here (items_sent setup who next lane xs) (items_sent setup who (after_all setup who next xs) lane ys))
 
 pub shown-append : (setup : SetupView) (lane : ℕ) (xs ys : List Entry) → shown setup lane (xs ++ ys) ≡ shown setup lane xs ++ shown setup lane ys
 shown-append setup lane [] ys = refl
@@ -199,7 +199,7 @@ leads duties progress request (entry.Marked lane marked ∷ more) h next never s
     let same : marked ≡ request = cc in
     (same, h.0.2, leads duties (after_entry progress (entry.Marked lane marked)) request more h.1 next (λ e. absurd (cc)) shut)
 
-pub lawful-leads : (duties : Duties) (journal : List Entry) → IsLawful duties journal → MarkersLeadToTheirTurn duties journal
+pub lawful-leads : (duties : Duties) (journal : List Entry) → IsLawfulJournal duties journal → MarkersLeadToTheirTurn duties journal
 lawful-leads duties journal h before lane request later is =
     let x : Entry = entry.Marked lane request in
     let h' = subst (λ (l : List Entry). IsExecution duties (initial duties) l) is h.execution in
@@ -212,7 +212,7 @@ lawful-leads duties journal h before lane request later is =
           leads duties (after_entry progress x) request later both.1.1 both.1.0.0 (λ e. absurd (cc)) shut'),
     )
 
-pub points-lawful : (duties : Duties) (journal : List Entry) → IsLawful duties journal → HasPoints duties journal
+pub points-lawful : (duties : Duties) (journal : List Entry) → IsLawfulJournal duties journal → HasPoints duties journal
 points-lawful duties journal h = record {
   tuple_lanes = λ before lane tuple later is. (at_place duties journal before (entry.Met lane tuple) later h.execution is).0;
   end_lanes = λ before lane later is. (at_place duties journal before (entry.Ended lane) later h.execution is).0;

@@ -37,8 +37,8 @@ use Rattle.versions.specs.declared.request.Request.{Request}
 use Rattle.flow_model.specs.SetupView.{SetupView, Worker}
 use Rattle.flow_model.specs.Alone.{is_sink}
 use Rattle.flow_model.specs.Planned.{copies_at, is_made_split, is_replicate_node, is_split_node, makes_split, splits_at}
-use Rattle.flow_model.specs.Replay.{StateView, after, with_change}
-use Rattle.flow_model.specs.Requests.{change_among, change_in, change_of}
+use Rattle.flow_model.specs.Replay.{StateView, after, after_change}
+use Rattle.flow_model.specs.Requests.{change_among, change_asked, change_by}
 use Rattle.flow_model.proofs.ElementLemmas.{IsIn, at_of_all, in_any, in_of_place}
 use Rattle.flow_model.proofs.StoryLemmas.{Moment, story}
 use Rattle.flow_model.proofs.WorkerLemmas.{item_at}
@@ -121,18 +121,18 @@ change_found (c ∷ more) node change h = go (c.node == node) refl (change_found
     go false e f h = let r = f h in (inr r.0, r.1)
 
 -- the change is one of a request
-pub change_there : (setup : SetupView) (r node : ℕ) (change : Change) → change_of setup r node ≡ Some change
+pub change_there : (setup : SetupView) (r node : ℕ) (change : Change) → change_by setup r node ≡ Some change
     → (request : Request) × IsIn request setup.requests × IsIn change request.changes × (change.node ≡ node)
 change_there setup zero node change h = absurd (cc)
 change_there setup (suc r) node change h = go (slice_get setup.requests r) refl h
   where
-    go : (o : Option Request) → slice_get setup.requests r ≡ o → change_in o node ≡ Some change → (request : Request) × IsIn request setup.requests × IsIn change request.changes × (change.node ≡ node)
+    go : (o : Option Request) → slice_get setup.requests r ≡ o → change_asked o node ≡ Some change → (request : Request) × IsIn request setup.requests × IsIn change request.changes × (change.node ≡ node)
     go None e h = absurd (cc)
     go (Some request) e h = let found = change_found request.changes node change h in (request, in_of_place request setup.requests r e, found.0, found.1)
 
 -- a change's function goes with the one that the job gives the node
 pub changed_alike : (setup : SetupView) (r node : ℕ) (def : NodeDef) (change : Change) → KeepKinds setup.job setup.requests → slice_get setup.job.nodes node ≡ Some def
-    → change_of setup r node ≡ Some change → AreAlike setup.job.edges node def.func change.func
+    → change_by setup r node ≡ Some change → AreAlike setup.job.edges node def.func change.func
 changed_alike setup r node def change kinds g h =
     let (request, asked, among, at) = change_there setup r node change h in
     let all : All (KeepsKind setup.job) request.changes = at_of_all (λ (request : Request). All (KeepsKind setup.job) request.changes) request setup.requests kinds asked in
@@ -142,7 +142,7 @@ changed_alike setup r node def change kinds g h =
 
 -- and makes no more pieces than the node's roof
 pub changed_roof : (setup : SetupView) (r node : ℕ) (def : NodeDef) (change : Change) → KeepKinds setup.job setup.requests → slice_get setup.job.nodes node ≡ Some def
-    → change_of setup r node ≡ Some change → fan_out change.func ≤ def.roof
+    → change_by setup r node ≡ Some change → fan_out change.func ≤ def.roof
 changed_roof setup r node def change kinds g h =
     let (request, asked, among, at) = change_there setup r node change h in
     let all : All (KeepsKind setup.job) request.changes = at_of_all (λ (request : Request). All (KeepsKind setup.job) request.changes) request setup.requests kinds asked in
@@ -152,7 +152,7 @@ changed_roof setup r node def change kinds g h =
     (and_parts (is_like def.func change.func || (is_free def.func && is_free change.func && once)) (nat_le (fan_out change.func) def.roof) (one def (rw at g))).1
 
 -- the job has the node of a change
-pub changed_node : (setup : SetupView) (r node : ℕ) (change : Change) → NameNodes setup.job setup.requests → change_of setup r node ≡ Some change → (def : NodeDef) × (slice_get setup.job.nodes node ≡ Some def)
+pub changed_node : (setup : SetupView) (r node : ℕ) (change : Change) → NameNodes setup.job setup.requests → change_by setup r node ≡ Some change → (def : NodeDef) × (slice_get setup.job.nodes node ≡ Some def)
 changed_node setup r node change named h =
     let (request, asked, among, at) = change_there setup r node change h in
     let all : All (λ (change : Change). change.node < length setup.job.nodes) request.changes =
@@ -164,14 +164,14 @@ changed_node setup r node change named h =
 
 -- the function is the one that the node has at first, or that of a change of it
 abbrev pub IsGiven : SetupView → ℕ → Func → Func → Type 0
-IsGiven setup node first f = (first ≡ f) ⊎ ((r : ℕ) × (change : Change) × (change_of setup r node ≡ Some change) × (change.func ≡ f))
+IsGiven setup node first f = (first ≡ f) ⊎ ((r : ℕ) × (change : Change) × (change_by setup r node ≡ Some change) × (change.func ≡ f))
 
 given_after : (setup : SetupView) (who : Worker) (first : Func) (view : StateView) (x : Entry) → IsGiven setup who.node first view.func → IsGiven setup who.node first (after setup who view x).func
 given_after setup who first view (entry.Met l t) a = a
 given_after setup who first view (entry.Marked l r) a = a
-given_after setup who first view (entry.Turned r) a = go (change_of setup r who.node) refl
+given_after setup who first view (entry.Turned r) a = go (change_by setup r who.node) refl
   where
-    go : (o : Option Change) → change_of setup r who.node ≡ o → IsGiven setup who.node first (with_change o view).func
+    go : (o : Option Change) → change_by setup r who.node ≡ o → IsGiven setup who.node first (after_change o view).func
     go None e = a
     go (Some change) e = inr (r, change, e, refl)
 given_after setup who first view (entry.Ended l) a = a

@@ -23,13 +23,13 @@ use Rattle.tuple_trace.specs.declared.tuple.Tuple.{Tuple}
 use Rattle.versions.specs.declared.request.Change.{Change}
 use Rattle.flow_model.specs.declared.landing.Landing.{Landing}
 use Rattle.flow_model.specs.Alone.{alone, bare_visit, func_for, func_for_node, is_sink, landing, lands, onward, table}
-use Rattle.flow_model.specs.Feeding.{fed_put, fed_puts, fed_tuple, feed_after, issued_after, issued_at_first, row_at}
+use Rattle.flow_model.specs.Feeding.{fed_put, fed_puts, fed_tuple, feed_after, issued_after, issued_at_first, row_numbered}
 use Rattle.flow_model.specs.Lanes.{first_on, lane_of}
 use Rattle.flow_model.specs.OneTable.{HasNoCounts, IsOneTable, landings, landings_by}
 use Rattle.flow_model.specs.declared.topology.Lane.{Lane}
 use Rattle.flow_model.specs.SetupView.{SetupView, Worker}
 use Rattle.flow_model.specs.Replay.{StateView, Put, after, put_out, puts, visit_at}
-use Rattle.flow_model.specs.Requests.{afters, change_of, func_with}
+use Rattle.flow_model.specs.Requests.{afters, change_by, func_with}
 use Rattle.flow_model.specs.Run.{Ran}
 use Rattle.flow_model.specs.Whole.{is_new, journals_at, met_tuples}
 use Rattle.flow_model.specs.Workers.{workers_in}
@@ -204,7 +204,7 @@ module _ (rows : List Row) (ran : Ran) (g : Running rows ran) (none : HasNoCount
   abbrev row_weight : Row → ℕ
   row_weight row = count_by test (alone ran.setup.job (T row.tuple.row) row)
 
-  fed_weighs : (number issued : ℕ) (row : Row) → row_at rows number ≡ Some row → sum_over (put_weight V ran.setup.job) (fed_put ran.setup.job issued (Some row)) ≡ row_weight row
+  fed_weighs : (number issued : ℕ) (row : Row) → row_numbered rows number ≡ Some row → sum_over (put_weight V ran.setup.job) (fed_put ran.setup.job issued (Some row)) ≡ row_weight row
   fed_weighs number issued row e =
       let on : GoesOn ran.setup.job None row.source 0 row.tuple = row_goes rows ran g sources number row e in
       let a : put_weight V ran.setup.job (record { lane = lane_of ran.setup.job None row.source 0 row.tuple; item = item.Carry (fed_tuple issued row) }) ≡ row_weight row =
@@ -221,7 +221,7 @@ module _ (rows : List Row) (ran : Ran) (g : Running rows ran) (none : HasNoCount
   length_push [] x = omega arith
   length_push (y ∷ xs) x = omega (arith, length_push xs x)
 
-  row_behind : (front more : List Row) (row : Row) → rows ≡ front ++ row ∷ more → row_at rows (length front + 1) ≡ Some row
+  row_behind : (front more : List Row) (row : Row) → rows ≡ front ++ row ∷ more → row_numbered rows (length front + 1) ≡ Some row
   row_behind front more row e =
       let n : length front + 1 ≡ suc (length front) = omega arith in
       rw n (ap (λ (l : List Row). slice_get l (length front)) e ∙ get_behind front more row)
@@ -230,14 +230,14 @@ module _ (rows : List Row) (ran : Ran) (g : Running rows ran) (none : HasNoCount
       → sum_over (put_weight V ran.setup.job) (fed_puts ran.setup.job rows issued (feed_after waits r (length front) (length rows) (length more))) ≡ sum_over row_weight more
   after_weighs waits r issued front [] e = refl
   after_weighs waits r issued front (row ∷ more) e =
-      sum_append (put_weight V ran.setup.job) (fed_put ran.setup.job issued (row_at rows (length front + 1)))
+      sum_append (put_weight V ran.setup.job) (fed_put ran.setup.job issued (row_numbered rows (length front + 1)))
       (fed_puts ran.setup.job rows issued (issued_after (length front + 1) (length rows) r waits ++ feed_after waits r (length front + 1) (length rows) (length more)))
       ∙ omega (arith, here, later (λ n. after_weighs waits r n (front ++ row ∷ []) more (e ∙ sym (append_assoc front (row ∷ []) more))))
     where
-      there : row_at rows (length front + 1) ≡ Some row
+      there : row_numbered rows (length front + 1) ≡ Some row
       there = row_behind front more row e
 
-      here : sum_over (put_weight V ran.setup.job) (fed_put ran.setup.job issued (row_at rows (length front + 1))) ≡ row_weight row
+      here : sum_over (put_weight V ran.setup.job) (fed_put ran.setup.job issued (row_numbered rows (length front + 1))) ≡ row_weight row
       here = ap (λ o. sum_over (put_weight V ran.setup.job) (fed_put ran.setup.job issued o)) there ∙ fed_weighs (length front + 1) issued row there
 
       later : ((n : ℕ) → sum_over (put_weight V ran.setup.job) (fed_puts ran.setup.job rows n (feed_after waits r (length (front ++ row ∷ [])) (length rows) (length more))) ≡ sum_over row_weight more)
@@ -333,14 +333,14 @@ table_alike : (rows : List Row) (ran : Ran) (g : Running rows ran) (row node : �
 table_alike rows ran g row node def zero there = alike_self ran.setup.job.edges node def.func
 table_alike rows ran g row node def (suc r) there = go (is_new ran (suc r) row) (table_alike rows ran g row node def r there)
   where
-    with_change : (o : Option Change) → change_of ran.setup (suc r) node ≡ o → AreAlike ran.setup.job.edges node def.func (func_for ran row node def.func r)
+    with_change : (o : Option Change) → change_by ran.setup (suc r) node ≡ o → AreAlike ran.setup.job.edges node def.func (func_for ran row node def.func r)
         → AreAlike ran.setup.job.edges node def.func (func_with o (func_for ran row node def.func r))
     with_change None e a = a
     with_change (Some change) e a = changed_alike ran.setup (suc r) node def change g.kinds there e
 
     go : (b : Bool) → AreAlike ran.setup.job.edges node def.func (func_for ran row node def.func r)
-        → AreAlike ran.setup.job.edges node def.func (cond b (func_with (change_of ran.setup (suc r) node) (func_for ran row node def.func r)) (func_for ran row node def.func r))
-    go true a = with_change (change_of ran.setup (suc r) node) refl a
+        → AreAlike ran.setup.job.edges node def.func (cond b (func_with (change_by ran.setup (suc r) node) (func_for ran row node def.func r)) (func_for ran row node def.func r))
+    go true a = with_change (change_by ran.setup (suc r) node) refl a
     go false a = a
 
 met_tables : (rows : List Row) (ran : Ran) (g : Running rows ran) → AreTables ran (table ran)

@@ -5,7 +5,7 @@ use Rattle.std.proofs.lemmas.List.{append-nil, append_cancel_left}
 use Rattle.std.proofs.lemmas.List.Elements.{Contains-append_left, filter_map-append}
 use Rattle.sink_journal.specs.declared.journal.Entry.{Entry}
 use Rattle.sink_journal.specs.declared.journal.Entry.TheVariants as entry
-use Rattle.flow_model.specs.Law.{IsExecution, IsLawful, Progress, Duties, after_entry, initial, later_dues, next_due, progress_after}
+use Rattle.flow_model.specs.Law.{IsExecution, IsLawfulJournal, Progress, Duties, after_entry, initial, later_dues, next_due, progress_after}
 use Rattle.flow_model.specs.Points.{EndOtherLanes, HasPoints, LeadsToTurn, markers, turn_in, turned}
 use Rattle.flow_model.proofs.JournalLemmas.{due_first, points-lawful, progress_after-append}
 
@@ -133,10 +133,10 @@ back duties journal points before (entry.Ended lane ∷ more) progress is at goi
     }) in
     (((points.end_lanes before lane more is, others.0, none_due, none_marked), later.0), later.1)
 
-lawful-points : (duties : Duties) (journal : List Entry) → HasPoints duties journal → IsLawful duties journal
+lawful-points : (duties : Duties) (journal : List Entry) → HasPoints duties journal → IsLawfulJournal duties journal
 lawful-points duties journal points =
     let all = back duties journal points [] journal (initial duties) refl refl (record { dues = refl; left = points.turns; marks = inl refl; ends = inl refl }) in
     record { execution = all.0; no_open_turn = all.1 }
 
-pub IsLawful-points : (duties : Duties) (journal : List Entry) → IsLawful duties journal ↔ HasPoints duties journal
+pub IsLawful-points : (duties : Duties) (journal : List Entry) → IsLawfulJournal duties journal ↔ HasPoints duties journal
 IsLawful-points duties journal = (points-lawful duties journal, lawful-points duties journal)

@@ -13,7 +13,7 @@ use Rattle.sink_journal.specs.declared.journal.Entry.TheVariants as entry
 use Rattle.tuple_trace.specs.declared.row.Row.{Row}
 use Rattle.tuple_trace.specs.declared.tuple.Item.TheVariants as item
 use Rattle.tuple_trace.specs.declared.tuple.Tuple.{Tuple}
-use Rattle.flow_model.specs.Feeding.{fed_puts, row_at}
+use Rattle.flow_model.specs.Feeding.{fed_puts, row_numbered}
 use Rattle.flow_model.specs.Lanes.{is_sender, lanes, senders}
 use Rattle.flow_model.specs.declared.topology.Lane.{Lane}
 use Rattle.flow_model.specs.SetupView.{Worker}
@@ -106,7 +106,7 @@ module _ (rows : List Row) (ran : Ran) (g : Running rows ran) where
 module _ (rows : List Row) (ran : Ran) (g : Running rows ran)
     (sources : AreFromSources ran.setup.job rows) where
   -- the lane of a row
-  pub row_goes : (number : ℕ) (row : Row) → row_at rows number ≡ Some row → GoesOn ran.setup.job None row.source 0 row.tuple
+  pub row_goes : (number : ℕ) (row : Row) → row_numbered rows number ≡ Some row → GoesOn ran.setup.job None row.source 0 row.tuple
   row_goes zero row e = absurd (cc)
   row_goes (suc place) row e =
       let source : is_source_node (slice_get ran.setup.job.nodes row.source) ≡ true = at_of_all (λ (row : Row). IsSourceOf ran.setup.job row.source) row rows sources (in_of_place row rows place e) in

@@ -13,7 +13,7 @@ use Rattle.tuple_trace.specs.declared.row.Row.{Row}
 use Rattle.tuple_trace.specs.declared.tuple.Item.{Item}
 use Rattle.tuple_trace.specs.declared.tuple.Item.TheVariants as item
 use Rattle.tuple_trace.specs.declared.tuple.Tuple.{Tuple}
-use Rattle.flow_model.specs.Feeding.{fed, fed_put, fed_puts, fed_tuple, feed_after, feed_from, issued_where, row_at}
+use Rattle.flow_model.specs.Feeding.{fed, fed_put, fed_puts, fed_tuple, feed_after, feed_from, issued_where, row_numbered}
 use Rattle.flow_model.specs.Lanes.{lane_of, lanes}
 use Rattle.flow_model.specs.declared.topology.Lane.{Lane}
 use Rattle.flow_model.specs.SetupView.{SetupView}
@@ -44,9 +44,9 @@ puts_above : (job : JobView) (rows : List Row) (k issued : ℕ) (feeds : List Fe
     → IsIn p (fed_puts job rows issued feeds) → p.item ≡ item.Carry t → k < t.row
 puts_above job rows k issued [] p t are f h e = absurd h
 puts_above job rows k issued (feed.Fed n ∷ more) p t are f h e =
-    go (row_at rows n) refl h (λ i. let lt : n < t.row = puts_above job rows n issued more p t are f.1 i e in let h = f.0 in omega arith)
+    go (row_numbered rows n) refl h (λ i. let lt : n < t.row = puts_above job rows n issued more p t are f.1 i e in let h = f.0 in omega arith)
   where
-    go : (o : Option Row) → row_at rows n ≡ o → IsIn p (fed_put job issued o ++ fed_puts job rows issued more) → (IsIn p (fed_puts job rows issued more) → k < t.row) → k < t.row
+    go : (o : Option Row) → row_numbered rows n ≡ o → IsIn p (fed_put job issued o ++ fed_puts job rows issued more) → (IsIn p (fed_puts job rows issued more) → k < t.row) → k < t.row
     go None g i later = later i
     go (Some row) g (inl q) later =
         let c : item.Carry (fed_tuple issued row) ≡ item.Carry t = sym (ap (λ (p : Put). p.item) q) ∙ e in
@@ -84,9 +84,9 @@ once_behind p ps s e above once (suc i) (suc j) a b t u g h c d same = ap suc (o
 
 once_fed : (job : JobView) (rows : List Row) (k issued : ℕ) (feeds : List Feed) → AreRows rows → FeedsRise k feeds → HasRowsOnce (fed_puts job rows issued feeds)
 once_fed job rows k issued [] are f = λ i j p q t u g h c d same. absurd (cc)
-once_fed job rows k issued (feed.Fed n ∷ more) are f = go (row_at rows n) refl (once_fed job rows n issued more are f.1)
+once_fed job rows k issued (feed.Fed n ∷ more) are f = go (row_numbered rows n) refl (once_fed job rows n issued more are f.1)
   where
-    go : (o : Option Row) → row_at rows n ≡ o → HasRowsOnce (fed_puts job rows issued more) → HasRowsOnce (fed_put job issued o ++ fed_puts job rows issued more)
+    go : (o : Option Row) → row_numbered rows n ≡ o → HasRowsOnce (fed_puts job rows issued more) → HasRowsOnce (fed_put job issued o ++ fed_puts job rows issued more)
     go None g once = once
     go (Some row) g once =
         once_behind (record { lane = lane_of job None row.source 0 row.tuple; item = item.Carry (fed_tuple issued row) }) (fed_puts job rows issued more) (fed_tuple issued row) refl

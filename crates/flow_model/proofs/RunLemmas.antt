@@ -16,12 +16,12 @@ use Rattle.tuple_trace.specs.declared.tuple.Visit.{Visit}
 use Rattle.versions.specs.Kept.{AreInOrder, KeepKinds}
 use Rattle.flow_model.specs.Agreement.{Agreement}
 use Rattle.flow_model.specs.Begin.{at_first}
-use Rattle.flow_model.specs.Feeding.{fed, fed_put, fed_puts, fed_tuple, row_at}
+use Rattle.flow_model.specs.Feeding.{fed, fed_put, fed_puts, fed_tuple, row_numbered}
 use Rattle.flow_model.specs.Lanes.{lane_of, senders}
 use Rattle.flow_model.specs.Law.{IsExecution, IsFinished, Progress, Duties, initial}
 use Rattle.flow_model.specs.declared.topology.Lane.{Lane}
 use Rattle.flow_model.specs.SetupView.{Worker}
-use Rattle.flow_model.specs.Replay.{Put, sent, shown}
+use Rattle.flow_model.specs.Replay.{Put, items_sent, shown}
 use Rattle.flow_model.specs.Run.{IsRunFrom, Ran, put_by}
 use Rattle.flow_model.specs.Duties.{duties}
 use Rattle.flow_model.specs.Workers.{workers_in, workers_at_node}
@@ -102,11 +102,11 @@ module _ (rows : List Row) (ran : Ran) (g : Running rows ran) where
 
   -- what the journal of the sender sends
   pub sent_there : (n w s : ℕ) → HasWorker ran w → HasWorker ran s → (k : LaneIn ran.setup.job (worker_no ran.setup w) n) → k.lane.sender ≡ Some s
-      → shown ran.setup n (journal_of ran w) ≡ sent ran.setup (worker_no ran.setup s) (begun ran.setup s) k.lane (journal_of ran s)
+      → shown ran.setup n (journal_of ran w) ≡ items_sent ran.setup (worker_no ran.setup s) (begun ran.setup s) k.lane (journal_of ran s)
   sent_there n w s lt ls k some =
       let e : put_by (at_first ran.setup) rows ran k.lane (Some s) ≡ Some (shown ran.setup n (journal_of ran w)) =
       subst (λ o. put_by (at_first ran.setup) rows ran k.lane o ≡ Some (shown ran.setup n (journal_of ran w))) some (put_on n w lt k) in
-      let f : Some (sent ran.setup (worker_no ran.setup s) (begun ran.setup s) k.lane (journal_of ran s)) ≡ Some (shown ran.setup n (journal_of ran w)) =
+      let f : Some (items_sent ran.setup (worker_no ran.setup s) (begun ran.setup s) k.lane (journal_of ran s)) ≡ Some (shown ran.setup n (journal_of ran w)) =
       rw (who_there ran.setup s ls, empty_at_first s ls, journal_here s ls) at e in
       cc
 
@@ -114,16 +114,16 @@ module _ (rows : List Row) (ran : Ran) (g : Running rows ran) where
 
 -- what the feeder puts on its lanes is made of rows
 pub in_fed_puts : (job : JobView) (rows : List Row) (issued : ℕ) (feeds : List Feed) (p : Put) → IsIn p (fed_puts job rows issued feeds)
-    → (number : ℕ) × (row : Row) × (count : ℕ) × (row_at rows number ≡ Some row) × (p ≡ record { lane = lane_of job None row.source 0 row.tuple; item = item.Carry (fed_tuple count row) })
+    → (number : ℕ) × (row : Row) × (count : ℕ) × (row_numbered rows number ≡ Some row) × (p ≡ record { lane = lane_of job None row.source 0 row.tuple; item = item.Carry (fed_tuple count row) })
 in_fed_puts job rows issued [] p h = absurd h
 in_fed_puts job rows issued (feed.Fed number ∷ more) p h =
-    elim (in_cases p (fed_put job issued (row_at rows number)) (fed_puts job rows issued more) h) [
-      | inl a ↦ go (row_at rows number) refl a
+    elim (in_cases p (fed_put job issued (row_numbered rows number)) (fed_puts job rows issued more) h) [
+      | inl a ↦ go (row_numbered rows number) refl a
       | inr b ↦ in_fed_puts job rows issued more p b
     ]
   where
-    go : (o : Option Row) → row_at rows number ≡ o → IsIn p (fed_put job issued o)
-        → (number : ℕ) × (row : Row) × (count : ℕ) × (row_at rows number ≡ Some row) × (p ≡ record { lane = lane_of job None row.source 0 row.tuple; item = item.Carry (fed_tuple count row) })
+    go : (o : Option Row) → row_numbered rows number ≡ o → IsIn p (fed_put job issued o)
+        → (number : ℕ) × (row : Row) × (count : ℕ) × (row_numbered rows number ≡ Some row) × (p ≡ record { lane = lane_of job None row.source 0 row.tuple; item = item.Carry (fed_tuple count row) })
     go None e i = absurd i
     go (Some row) e (inl q) = (number, row, issued, e, q)
     go (Some row) e (inr n) = absurd n
@@ -131,7 +131,7 @@ in_fed_puts job rows issued (feed.Issued request ∷ more) p h = in_fed_puts job
 in_fed_puts job rows issued (feed.Stopped ∷ more) p h = in_fed_puts job rows issued more p h
 
 -- a row by its number
-pub row_is : (rows : List Row) (number : ℕ) (row : Row) → AreRows rows → row_at rows number ≡ Some row → IsRow number row
+pub row_is : (rows : List Row) (number : ℕ) (row : Row) → AreRows rows → row_numbered rows number ≡ Some row → IsRow number row
 row_is rows zero row are e = absurd (cc)
 row_is rows (suc place) row are e = let n : place + 1 ≡ suc place = omega arith in subst (λ k. IsRow k row) n (are place row e)
 
@@ -202,11 +202,11 @@ module _ (rows : List Row) (ran : Ran) (g : Running rows ran) where
           let is : IsWorker ran.setup.job (worker_no ran.setup s) = (worker_is ran.setup s there.within).1 in
           let law = execution rows ran g s there.within in
           let delivered : BringSteadily ran.setup (worker_no ran.setup s) (journal_of ran s) = earlier s there.within there.node_is in
-          let sends : IsSteadyList (HasEdge ran.setup.job.edges) (worker_no ran.setup s).node (sent ran.setup (worker_no ran.setup s) (begun ran.setup s) k.lane (journal_of ran s)) =
+          let sends : IsSteadyList (HasEdge ran.setup.job.edges) (worker_no ran.setup s).node (items_sent ran.setup (worker_no ran.setup s) (begun ran.setup s) k.lane (journal_of ran s)) =
           sends_steadily ran.setup 0 (worker_no ran.setup s) is (begun ran.setup s) (journal_of ran s) law (dues_rise ran.setup 0 (worker_no ran.setup s).node 0 (omega arith)) delivered
           (agreed ran.setup g.kept 0 (worker_no ran.setup s) is (journal_of ran s) law delivered) k.lane in
           subst (IsSteadyList (HasEdge ran.setup.job.edges) k.edge.from) (sym (sent_there rows ran g n w s l there.within k sender.1))
-          (subst (λ v. IsSteadyList (HasEdge ran.setup.job.edges) v (sent ran.setup (worker_no ran.setup s) (begun ran.setup s) k.lane (journal_of ran s))) there.node_is sends)
+          (subst (λ v. IsSteadyList (HasEdge ran.setup.job.edges) v (items_sent ran.setup (worker_no ran.setup s) (begun ran.setup s) k.lane (journal_of ran s))) there.node_is sends)
 
   -- every lane is steady
   pub all_steady : (w : ℕ) → HasWorker ran w → BringSteadily ran.setup (worker_no ran.setup w) (journal_of ran w)

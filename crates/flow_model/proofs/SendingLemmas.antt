@@ -21,7 +21,7 @@ use Rattle.flow_model.specs.Lanes.{is_same_lane, lanes_in, lanes_out}
 use Rattle.flow_model.specs.Law.{IsExecution, initial}
 use Rattle.flow_model.specs.declared.topology.Lane.{Lane}
 use Rattle.flow_model.specs.SetupView.{SetupView, Worker}
-use Rattle.flow_model.specs.Replay.{StateView, Put, came_in, item_on, items_on, marker, marker_by, put_on_each, put_out, puts, sent, visit_at}
+use Rattle.flow_model.specs.Replay.{StateView, Put, came_in, item_on, items_on, marker, marker_by, put_on_each, put_out, puts, items_sent, visit_at}
 use Rattle.flow_model.specs.Duties.{dues_after, duties}
 use Rattle.flow_model.proofs.ElementLemmas.{Before, IsIn, before_first, before_second, flat_map_before, flat_map_in, in_cases, in_filter_map, in_flat_map, in_map, place_of_in}
 use Rattle.flow_model.proofs.LaneLemmas.{LaneIn, lane_in, same_lane}
@@ -172,5 +172,5 @@ module _ (setup : SetupView) (turned : ℕ) (who : Worker) (is : IsWorker setup.
               (comes_of setup who lane r.1.view r.1.entry y r.4)
         ]
 
-    pub sends_steadily : IsSteadyList (HasEdge setup.job.edges) who.node (sent setup who view lane journal)
+    pub sends_steadily : IsSteadyList (HasEdge setup.job.edges) who.node (items_sent setup who view lane journal)
     sends_steadily = subst (IsSteadyList (HasEdge setup.job.edges) who.node) (sym (sent-story setup who view lane journal)) (record { come = come; agree = pair })

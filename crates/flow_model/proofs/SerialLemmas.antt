@@ -15,9 +15,9 @@ use Rattle.versions.specs.declared.request.Request.{Request}
 use Rattle.flow_model.specs.Covers.{asks}
 use Rattle.flow_model.specs.OneTable.{HasNoCounts}
 use Rattle.flow_model.specs.SetupView.{SetupView, Worker}
-use Rattle.flow_model.specs.Requests.{change_of, changes, func_after, func_with, names}
+use Rattle.flow_model.specs.Requests.{change_by, changes, func_after, func_with, names}
 use Rattle.flow_model.specs.Run.{Ran}
-use Rattle.flow_model.specs.Serial.{IsSerial, SeesPrefix, func_of_node, newest, serial, table_at}
+use Rattle.flow_model.specs.Serial.{IsSerial, SeesPrefix, func_of_node, newest, serial, funcs_after}
 use Rattle.flow_model.specs.Whole.{IsOneSided, after_turn, any_before, asked_workers, before_turn, changed_workers, is_new, is_old, journals_at, meets_row}
 use Rattle.flow_model.specs.Workers.{workers_in}
 use Rattle.flow_model.proofs.ElementLemmas.{IsIn, any_in, filter_in, filter_map_in, in_any, in_filter, in_filter_map}
@@ -210,14 +210,14 @@ module _ (rows : List Row) (ran : Ran) (g : Running rows ran) (ordered : IsTrue 
 
   after_alike : (node : ℕ) (def : NodeDef) (r : ℕ) → slice_get ran.setup.job.nodes node ≡ Some def → AreAlike ran.setup.job.edges node def.func (func_after ran.setup node def.func r)
   after_alike node def zero there = alike_self ran.setup.job.edges node def.func
-  after_alike node def (suc r) there = go (change_of ran.setup (suc r) node) refl (after_alike node def r there)
+  after_alike node def (suc r) there = go (change_by ran.setup (suc r) node) refl (after_alike node def r there)
     where
-      go : (o : Option Change) → change_of ran.setup (suc r) node ≡ o → AreAlike ran.setup.job.edges node def.func (func_after ran.setup node def.func r)
+      go : (o : Option Change) → change_by ran.setup (suc r) node ≡ o → AreAlike ran.setup.job.edges node def.func (func_after ran.setup node def.func r)
           → AreAlike ran.setup.job.edges node def.func (func_with o (func_after ran.setup node def.func r))
       go None e a = a
       go (Some change) e a = changed_alike ran.setup (suc r) node def change g.kinds there e
 
-  serial_tables : AreTables ran (λ row. table_at ran.setup (serial ran row))
+  serial_tables : AreTables ran (λ row. funcs_after ran.setup (serial ran row))
   serial_tables = record {
     gives = λ row node def there.
         (func_after ran.setup node def.func (serial ran row), ap (func_of_node ran.setup (serial ran row) node) there, after_alike node def (serial ran row) there);
@@ -228,4 +228,4 @@ module _ (rows : List Row) (ran : Ran) (g : Running rows ran) (ordered : IsTrue 
   }
 
   pub is_serial : HasNoCounts ran.setup.job → AreFromSources ran.setup.job rows → IsSerial rows ran
-  is_serial none sources test = same_count rows ran g none sources (λ row. table_at ran.setup (serial ran row)) serial_tables test
+  is_serial none sources test = same_count rows ran g none sources (λ row. funcs_after ran.setup (serial ran row)) serial_tables test

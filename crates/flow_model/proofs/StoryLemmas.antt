@@ -6,7 +6,7 @@ use Rattle.tuple_trace.specs.declared.tuple.Item.{Item}
 use Rattle.flow_model.specs.Law.{IsEnabled, IsExecution, Progress, Duties, after_entry, later_dues, next_due}
 use Rattle.flow_model.specs.declared.topology.Lane.{Lane}
 use Rattle.flow_model.specs.SetupView.{SetupView, Worker}
-use Rattle.flow_model.specs.Replay.{StateView, after, items_on, puts, sent}
+use Rattle.flow_model.specs.Replay.{StateView, after, items_on, puts, items_sent}
 use Rattle.flow_model.proofs.ElementLemmas.{Before, IsIn}
 
 -- An entry of a journal, with what was in force before it.
@@ -25,7 +25,7 @@ put_then setup who lane m = items_on lane (puts setup who m.view m.entry)
 
 -- what a journal sends on a lane is what its moments put there
 pub sent-story : (setup : SetupView) (who : Worker) (view : StateView) (lane : Lane) (journal : List Entry)
-    → sent setup who view lane journal ≡ flat_map (put_then setup who lane) (story setup who view journal)
+    → items_sent setup who view lane journal ≡ flat_map (put_then setup who lane) (story setup who view journal)
 sent-story setup who view lane [] = refl
 sent-story setup who view lane (x ∷ more) =
     ap (λ (later : List Item). items_on lane (puts setup who view x) ++ later) (sent-story setup who (after setup who view x) lane more)

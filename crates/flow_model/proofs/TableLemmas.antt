@@ -15,8 +15,8 @@ use Rattle.flow_model.specs.Alone.{func_for}
 use Rattle.flow_model.specs.Covers.{covers}
 use Rattle.flow_model.specs.Law.{IsEnabled, IsExecution, Progress, Duties, after_entry, later_dues, next_due}
 use Rattle.flow_model.specs.SetupView.{SetupView, Worker}
-use Rattle.flow_model.specs.Replay.{StateView, after, with_change}
-use Rattle.flow_model.specs.Requests.{change_among, change_in, change_of, changes, func_after, func_with, names, request_at}
+use Rattle.flow_model.specs.Replay.{StateView, after, after_change}
+use Rattle.flow_model.specs.Requests.{change_among, change_asked, change_by, changes, func_after, func_with, names, request_at}
 use Rattle.flow_model.specs.Run.{Ran}
 use Rattle.flow_model.specs.Duties.{duties}
 use Rattle.flow_model.specs.Whole.{IsWhole, after_turn, any_before, before_turn, changed_workers, is_new, is_turn, journals_at, meets_row, met_tuples}
@@ -40,14 +40,14 @@ unnamed (c ∷ more) node h = go (c.node == node) h (unnamed more node)
     go true h f = absurd (cc)
     go false h f = f h
 
-pub unchanged : (setup : SetupView) (r node : ℕ) → changes setup r node ≡ false → change_of setup r node ≡ None
+pub unchanged : (setup : SetupView) (r node : ℕ) → changes setup r node ≡ false → change_by setup r node ≡ None
 unchanged setup r node h = go (request_at setup r) h
   where
-    go : (o : Option Request) → names o node ≡ false → change_in o node ≡ None
+    go : (o : Option Request) → names o node ≡ false → change_asked o node ≡ None
     go None h = refl
     go (Some request) h = unnamed request.changes node h
 
-same_func : (setup : SetupView) (r node : ℕ) (f : Func) → changes setup r node ≡ false → func_with (change_of setup r node) f ≡ f
+same_func : (setup : SetupView) (r node : ℕ) (f : Func) → changes setup r node ≡ false → func_with (change_by setup r node) f ≡ f
 same_func setup r node f h = ap (λ o. func_with o f) (unchanged setup r node h)
 
 -- requests that don't change the node make no difference
@@ -65,14 +65,14 @@ func_gap setup node f low (suc more) h =
 abbrev HasDues : SetupView → ℕ → ℕ → List ℕ → Type 0
 HasDues setup node last dues = (r : ℕ) → last < r → covers setup r node ≡ true → IsIn r dues
 
-with_func : (o : Option Change) (view : StateView) → (with_change o view).func ≡ func_with o view.func
+with_func : (o : Option Change) (view : StateView) → (after_change o view).func ≡ func_with o view.func
 with_func None view = refl
 with_func (Some change) view = refl
 
 module _ (setup : SetupView) (kept : HasCovers setup) (who : Worker) (f : Func) where
   -- what a turn leaves due, and in force
   turned : (q last : ℕ) (view : StateView) (dues : List ℕ) → next_due dues ≡ Some q → IsRising last dues → HasDues setup who.node last dues → view.func ≡ func_after setup who.node f last
-      → HasDues setup who.node q (later_dues dues) × (func_with (change_of setup q who.node) view.func ≡ func_after setup who.node f q)
+      → HasDues setup who.node q (later_dues dues) × (func_with (change_by setup q who.node) view.func ≡ func_after setup who.node f q)
   turned q last view [] n i h e = absurd (cc)
   turned q last view (due ∷ dues) n i h e =
       let first : due ≡ q = cc in
@@ -97,12 +97,12 @@ module _ (setup : SetupView) (kept : HasCovers setup) (who : Worker) (f : Func) 
           go true e = absurd (where_it_is (h r low (kept.asked r who.node (kept.changed r who.node e))))
           go false e = e
 
-      to_q : due ≡ q → last < q → func_with (change_of setup q who.node) view.func ≡ func_after setup who.node f q
+      to_q : due ≡ q → last < q → func_with (change_by setup q who.node) view.func ≡ func_after setup who.node f q
       to_q first lt =
           let n : q ≡ suc (last + (q - suc last)) = omega arith in
           let gap : func_after setup who.node f (last + (q - suc last)) ≡ func_after setup who.node f last = func_gap setup who.node f last (q - suc last) (λ r a b. none first r a (omega arith)) in
-          subst (λ k. func_with (change_of setup k who.node) view.func ≡ func_after setup who.node f k) (sym n)
-          (ap (func_with (change_of setup (suc (last + (q - suc last))) who.node)) (e ∙ sym gap))
+          subst (λ k. func_with (change_by setup k who.node) view.func ≡ func_after setup who.node f k) (sym n)
+          (ap (func_with (change_by setup (suc (last + (q - suc last))) who.node)) (e ∙ sym gap))
 
   in_force : (duties : Duties) (progress : Progress) (view : StateView) (journal : List Entry) (i : ℕ) (m : Moment) → IsExecution duties progress journal
       → IsRising view.last progress.dues → HasDues setup who.node view.last progress.dues → view.func ≡ func_after setup who.node f view.last
@@ -122,7 +122,7 @@ module _ (setup : SetupView) (kept : HasCovers setup) (who : Worker) (f : Func) 
       step (entry.Ended l) a = (d, e)
       step (entry.Turned q) a =
           let k = turned q view.last view progress.dues a.0 r d e in
-          (k.0, with_func (change_of setup q who.node) view ∙ k.1)
+          (k.0, with_func (change_by setup q who.node) view ∙ k.1)
 
 -- ---- which side of a turn an entry stands on
 
@@ -224,13 +224,13 @@ module _ (rows : List Row) (ran : Ran) (g : Running rows ran) (w : ℕ) (lt : Ha
         → by_row (suc r) ≡ after_first (min (suc r) m.view.last)
     step r h true e (inl le) =
         let a : by_row r ≡ after_first r = h ∙ ap after_first (min_here r m.view.last (omega arith)) in
-        rw (late_new (suc r) e le) (ap (func_with (change_of ran.setup (suc r) (worker_no ran.setup w).node)) a ∙ ap after_first (sym (min_here (suc r) m.view.last le)))
+        rw (late_new (suc r) e le) (ap (func_with (change_by ran.setup (suc r) (worker_no ran.setup w).node)) a ∙ ap after_first (sym (min_here (suc r) m.view.last le)))
     step r h true e (inr low) =
         let k : min r m.view.last ≡ min (suc r) m.view.last = omega arith in
         rw (early_old (suc r) e low) (h ∙ ap after_first k)
     step r h false e side = same (is_new ran (suc r) t.row) ∙ (h ∙ over side)
       where
-        same : (b : Bool) → cond b (func_with (change_of ran.setup (suc r) (worker_no ran.setup w).node) (by_row r)) (by_row r) ≡ by_row r
+        same : (b : Bool) → cond b (func_with (change_by ran.setup (suc r) (worker_no ran.setup w).node) (by_row r)) (by_row r) ≡ by_row r
         same true = same_func ran.setup (suc r) (worker_no ran.setup w).node (by_row r) e
         same false = refl
 

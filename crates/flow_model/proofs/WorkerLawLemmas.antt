@@ -18,7 +18,7 @@ use Rattle.flow_model.specs.Begin.{Begin, at_first, last_after, view_at}
 use Rattle.flow_model.specs.Covers.{covers}
 use Rattle.flow_model.specs.declared.topology.Lane.{Lane}
 use Rattle.flow_model.specs.SetupView.{SetupView, Worker}
-use Rattle.flow_model.specs.Replay.{sent, shown}
+use Rattle.flow_model.specs.Replay.{items_sent, shown}
 use Rattle.flow_model.specs.Run.{IsLawfulFrom, Ran}
 use Rattle.flow_model.specs.Workers.{workers_in}
 use Rattle.flow_model.proofs.ElementLemmas.{IsIn, all_of_at, all_of_pairs, at_of_all, pair_of_all}
@@ -87,7 +87,7 @@ module _ (setup : SetupView) (kept : HasCovers setup) (graph : Graph) (same : Is
 
     pub worker_sends : (counts : Counts) → SendsSteadily setup graph begin who counts journal
     worker_sends counts lane =
-        list_steady (record { graph = graph; from = who.node }) (HasEdge setup.job.edges) (sent setup who (view_at setup begin.turned who counts) lane journal) same
+        list_steady (record { graph = graph; from = who.node }) (HasEdge setup.job.edges) (items_sent setup who (view_at setup begin.turned who counts) lane journal) same
         (sends_steadily setup begin.turned who is (view_at setup begin.turned who counts) journal works.lawful.execution
         (dues_rise setup begin.turned who.node (last_after setup who.node begin.turned) (last_within setup who.node begin.turned)) delivered has_agreed lane)
 

@@ -14,7 +14,7 @@ use Rattle.flow_model.specs.SetupView.{SetupView, Worker}
 use Rattle.flow_model.specs.Begin.{Begin, view_at}
 use Rattle.flow_model.specs.Covers.{plan_of}
 use Rattle.flow_model.specs.Lanes.{lanes}
-use Rattle.flow_model.specs.Replay.{sent, shown}
+use Rattle.flow_model.specs.Replay.{items_sent, shown}
 use Rattle.flow_model.specs.Run.{IsLawfulFrom}
 use Rattle.flow_model.specs.Workers.{workers_in}
 
@@ -55,4 +55,4 @@ pub record WorksSteadily (setup : SetupView) (graph : Graph) (begin : Begin) (wh
 abbrev pub SendsSteadily : SetupView → Graph → Begin → Worker → Counts → List Entry → Type 0
 SendsSteadily setup graph begin who counts journal =
     (lane : Lane) → IsSteady (record { graph = graph; from = who.node })
-    (sent setup who (view_at setup begin.turned who counts) lane journal)
+    (items_sent setup who (view_at setup begin.turned who counts) lane journal)

@@ -15,7 +15,7 @@ use Rattle.tuple_trace.specs.declared.tuple.Tuple.{Tuple}
 use Rattle.tuple_trace.specs.declared.tuple.Visit.{Visit}
 use Rattle.flow_model.specs.declared.landing.Landing.{Landing}
 use Rattle.flow_model.specs.Lanes.{first_on}
-use Rattle.flow_model.specs.Requests.{change_of, func_with}
+use Rattle.flow_model.specs.Requests.{change_by, func_with}
 use Rattle.flow_model.specs.Run.{Ran}
 use Rattle.flow_model.specs.Whole.{is_new}
 
@@ -71,7 +71,7 @@ alone job table row = onward (lands job table (length job.nodes))
 abbrev pub func_for : Ran → ℕ → ℕ → Func → ℕ → Func
 func_for ran row node func zero = func
 func_for ran row node func (suc r) =
-    if is_new ran (suc r) row then func_with (change_of ran.setup (suc r) node)
+    if is_new ran (suc r) row then func_with (change_by ran.setup (suc r) node)
     (func_for ran row node func r) else func_for ran row node func r
 
 -- the function of a node after all requests at which the row is new; none without a node

@@ -43,9 +43,9 @@ feed_from row issued afters rows =
     ++ feed_after (drop issued afters) (issued + 1) row rows (rows - row)
 
 -- the row with this number; they are counted from 1
-abbrev pub row_at : List Row → ℕ → Option Row
-row_at rows zero = None
-row_at rows (suc place) = slice_get rows place
+abbrev pub row_numbered : List Row → ℕ → Option Row
+row_numbered rows zero = None
+row_numbered rows (suc place) = slice_get rows place
 
 -- the tuple of a row that is fed after `issued` requests were issued
 abbrev pub fed_tuple : ℕ → Row → Tuple
@@ -64,7 +64,7 @@ fed_put job issued (Some row) =
 abbrev pub fed_puts : JobView → List Row → ℕ → List Feed → List Put
 fed_puts job rows issued [] = []
 fed_puts job rows issued (feed.Fed number ∷ more) =
-    fed_put job issued (row_at rows number) ++ fed_puts job rows issued more
+    fed_put job issued (row_numbered rows number) ++ fed_puts job rows issued more
 fed_puts job rows issued (feed.Issued request ∷ more) = fed_puts job rows (issued + 1) more
 fed_puts job rows issued (feed.Stopped ∷ more) = fed_puts job rows issued more
 

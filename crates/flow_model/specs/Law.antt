@@ -81,12 +81,12 @@ abbrev pub initial : Duties → Progress
 initial duties = record { dues = duties.dues; marked = []; ended = [] }
 
 -- the journal is lawful so far
-pub record IsLawful (duties : Duties) (journal : List Entry) : Type 0 where
+pub record IsLawfulJournal (duties : Duties) (journal : List Entry) : Type 0 where
   pub execution : IsExecution duties (initial duties) journal
   -- no marker stands there without its turn
   pub no_open_turn : (progress_after (initial duties) journal).marked ≡ []
 
 -- the journal is finished: lawful so far, and every lane in has ended
 pub record IsFinished (duties : Duties) (journal : List Entry) : Type 0 where
-  pub lawful : IsLawful duties journal
+  pub lawful : IsLawfulJournal duties journal
   pub ended : All (Contains (progress_after (initial duties) journal).ended) duties.lanes

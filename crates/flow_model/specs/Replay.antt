@@ -18,7 +18,7 @@ use Rattle.flow_model.specs.declared.topology.Lane.{Lane}
 use Rattle.flow_model.specs.SetupView.{SetupView, Worker}
 use Rattle.flow_model.specs.Covers.{covers_edge, plan_of}
 use Rattle.flow_model.specs.Lanes.{is_same_lane, lane_of, lanes_in, lanes_out}
-use Rattle.flow_model.specs.Requests.{change_of}
+use Rattle.flow_model.specs.Requests.{change_by}
 
 -- What is in force at a worker: its function and its counts, the latest request turned, and how
 -- many lanes have ended.
@@ -29,9 +29,9 @@ pub record StateView : Type 0 where
   pub ended : ℕ
 
 -- what a change puts in force: its function, and the counts that it carries over
-abbrev pub with_change : Option Change → StateView → StateView
-with_change None view = view
-with_change (Some change) view = record view {
+abbrev pub after_change : Option Change → StateView → StateView
+after_change None view = view
+after_change (Some change) view = record view {
   func = change.func;
   counts = carried change.carry view.counts;
 }
@@ -48,7 +48,7 @@ after setup who view (entry.Met lane tuple) = record view {
 }
 after setup who view (entry.Marked lane request) = view
 after setup who view (entry.Turned request) = record
-    (with_change (change_of setup request who.node) view) { last = request }
+    (after_change (change_by setup request who.node) view) { last = request }
 after setup who view (entry.Ended lane) = record view { ended = view.ended + 1 }
 
 -- what is in force after a journal
@@ -109,10 +109,10 @@ abbrev pub items_on : Lane → List Put → List Item
 items_on lane puts = filter_map (item_on lane) puts
 
 -- what the replay of a journal sends on a lane, from what is in force on
-abbrev pub sent : SetupView → Worker → StateView → Lane → List Entry → List Item
-sent setup who view lane [] = []
-sent setup who view lane (entry ∷ more) = items_on lane (puts setup who view entry)
-    ++ sent setup who (after setup who view entry) lane more
+abbrev pub items_sent : SetupView → Worker → StateView → Lane → List Entry → List Item
+items_sent setup who view lane [] = []
+items_sent setup who view lane (entry ∷ more) = items_on lane (puts setup who view entry)
+    ++ items_sent setup who (after setup who view entry) lane more
 
 -- the items that came in by the lane with this number, at an entry
 abbrev pub came_in : SetupView → ℕ → Entry → List Item

@@ -19,13 +19,13 @@ change_among (change ∷ more) node = if change.node == node then Some change
     else change_among more node
 
 -- the change of a node by this request, if there is one
-abbrev pub change_in : Option Request → ℕ → Option Change
-change_in None node = None
-change_in (Some request) node = change_among request.changes node
+abbrev pub change_asked : Option Request → ℕ → Option Change
+change_asked None node = None
+change_asked (Some request) node = change_among request.changes node
 
 -- the change of a node by a request
-abbrev pub change_of : SetupView → ℕ → ℕ → Option Change
-change_of setup request node = change_in (request_at setup request) node
+abbrev pub change_by : SetupView → ℕ → ℕ → Option Change
+change_by setup request node = change_asked (request_at setup request) node
 
 -- there is a request, and it changes the node
 abbrev pub names : Option Request → ℕ → Bool
@@ -44,7 +44,7 @@ func_with (Some change) func = change.func
 -- the function of a node, given at first, after the first r requests
 abbrev pub func_after : SetupView → ℕ → Func → ℕ → Func
 func_after setup node func zero = func
-func_after setup node func (suc r) = func_with (change_of setup (suc r) node)
+func_after setup node func (suc r) = func_with (change_by setup (suc r) node)
     (func_after setup node func r)
 
 -- the rows that the requests wait for

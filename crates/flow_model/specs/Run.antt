@@ -11,8 +11,8 @@ use Rattle.flow_model.specs.SetupView.{SetupView, Worker}
 use Rattle.flow_model.specs.Begin.{Begin, at_first, view_at}
 use Rattle.flow_model.specs.Feeding.{fed, feed_from}
 use Rattle.flow_model.specs.Lanes.{lanes}
-use Rattle.flow_model.specs.Law.{IsFinished, IsLawful}
-use Rattle.flow_model.specs.Replay.{after_all, sent, shown}
+use Rattle.flow_model.specs.Law.{IsFinished, IsLawfulJournal}
+use Rattle.flow_model.specs.Replay.{after_all, items_sent, shown}
 use Rattle.flow_model.specs.Requests.{afters}
 use Rattle.flow_model.specs.Duties.{duties}
 use Rattle.flow_model.specs.Workers.{workers_in}
@@ -36,7 +36,7 @@ ran_as setup feeds journals states = record {
 
 -- the journal of a worker is lawful so far, from this beginning on
 abbrev pub IsLawfulFrom : SetupView → Begin → Worker → List Entry → Type 0
-IsLawfulFrom setup begin who journal = IsLawful (duties setup begin.turned who) journal
+IsLawfulFrom setup begin who journal = IsLawfulJournal (duties setup begin.turned who) journal
 
 -- the journal of a worker is finished, from this beginning on
 abbrev pub IsFinishedFrom : SetupView → Begin → Worker → List Entry → Type 0
@@ -51,7 +51,7 @@ final_counts setup begin who counts journal = (after_all setup who
 abbrev pub sent_by : SetupView → Begin → Lane → Option Worker → Option Counts → Option (List Entry)
     → Option (List Item)
 sent_by setup begin lane (Some who) (Some counts) (Some journal) =
-    Some (sent setup who (view_at setup begin.turned who counts) lane journal)
+    Some (items_sent setup who (view_at setup begin.turned who counts) lane journal)
 sent_by setup begin lane _ _ _ = None
 
 -- what a sender puts on a lane: the feeder its rows and then the end, and a worker what the replay

@@ -34,14 +34,14 @@ func_of_node setup k node None = None
 func_of_node setup k node (Some def) = Some (func_after setup node def.func k)
 
 -- the functions after the first k requests
-abbrev pub table_at : SetupView → ℕ → ℕ → Option Func
-table_at setup k node = func_of_node setup k node (slice_get setup.job.nodes node)
+abbrev pub funcs_after : SetupView → ℕ → ℕ → Option Func
+funcs_after setup k node = func_of_node setup k node (slice_get setup.job.nodes node)
 
 -- what these rows make by themselves, each with the functions after the requests that it comes
 -- behind
 abbrev pub landings_in_order : Ran → List Row → List Landing
 landings_in_order ran rows = flat_map (λ (row : Row). alone ran.setup.job
-    (table_at ran.setup (serial ran row.tuple.row)) row) rows
+    (funcs_after ran.setup (serial ran row.tuple.row)) row) rows
 
 -- what came to the sinks is what the rows make by themselves in the order of rows and requests
 abbrev pub IsSerial : List Row → Ran → Type 0

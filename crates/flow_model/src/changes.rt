@@ -4,7 +4,7 @@ ghost use Rattle.std.specs.Prelude.{slice_get};
 ghost use Rattle.jobs.specs.declared.func.Func.{Func as FuncIs};
 ghost use Rattle.versions.specs.declared.request.Change.{Change as ChangeIs};
 ghost use Rattle.flow_model.specs.InForce.{change_at, counts_with, func_in as func_at};
-ghost use Rattle.flow_model.specs.Requests.{change_among, change_of, func_with, request_at};
+ghost use Rattle.flow_model.specs.Requests.{change_among, change_by, func_with, request_at};
 ghost use Rattle.flow_model.specs.SetupView.{Worker as WorkerIs};
 ghost use Rattle.flow_model.specs.Setup.{setup_view};
 ghost use Rattle.flow_model.specs.WorkerState.{func_at as at_view};
@@ -26,9 +26,9 @@ impl Setup {
     /// The place of the change of a node among those of a request. Takes no memory.
     pub fn change_place(&self, request: u64, node: u32) -> Option<usize>
         ensures some { IfSome result (λ place. (change : ChangeIs)
-            × (change_of (setup_view self.now) request node ≡ Some change)
+            × (change_by (setup_view self.now) request node ≡ Some change)
             × (change_at (request_at (setup_view self.now) request) place ≡ Some change)) }
-        ensures none { IfNone result (change_of (setup_view self.now) request node ≡ None) }
+        ensures none { IfNone result (change_by (setup_view self.now) request node ≡ None) }
     {
         let request = self.request(request)?;
         place_among(request.changes.as_slice(), node)
@@ -36,7 +36,7 @@ impl Setup {
 
     /// The change of a node by a request. Takes no memory.
     pub fn change_of(&self, request: u64, node: u32) -> Option<&Change>
-        ensures { option_copied result ≡ change_of (setup_view self.now) request node }
+        ensures { option_copied result ≡ change_by (setup_view self.now) request node }
     {
         let request = self.request(request)?;
         change_in(request.changes.as_slice(), node)
@@ -72,13 +72,13 @@ impl Setup {
     pub fn put_in_force(&self, node: u32, request: u64, at: &mut InForce, counts: &mut Keyed)
         ensures func { (func : FuncIs) → func_at (setup_view self.now) node at.old ≡ Some func
             → func_at (setup_view self.now) node at.new
-            ≡ Some (func_with (change_of (setup_view self.now) request node) func) }
+            ≡ Some (func_with (change_by (setup_view self.now) request node) func) }
         ensures view { (who : WorkerIs) → who.node ≡ node
             → at_view (setup_view self.now) who at.new
-            ≡ func_with (change_of (setup_view self.now) request node)
+            ≡ func_with (change_by (setup_view self.now) request node)
             (at_view (setup_view self.now) who at.old) }
         ensures counts { counts.new
-            ≡ counts_with (change_of (setup_view self.now) request node) counts.old }
+            ≡ counts_with (change_by (setup_view self.now) request node) counts.old }
     {
         if let Some(changed) = self.request(request) {
             let changes = changed.changes.as_slice();

@@ -15,11 +15,11 @@ ghost use Rattle.flow_model.specs.Feeding.{feed_from};
 ghost use Rattle.flow_model.specs.FourPayments.{at_least, chain, filter_worker, four_payments};
 ghost use Rattle.flow_model.specs.FourPayments.{four_ran, four_setup, late_big, row_of, short_ran};
 ghost use Rattle.flow_model.specs.Fresh.{IsFresh, IsFreshBefore};
-ghost use Rattle.flow_model.specs.Law.{IsFinished, IsLawful};
+ghost use Rattle.flow_model.specs.Law.{IsFinished, IsLawfulJournal};
 ghost use Rattle.flow_model.specs.OneTable.{HasNoCounts, IsOneTable};
 ghost use Rattle.flow_model.specs.Planned.{IsPlanned};
 ghost use Rattle.flow_model.specs.Run.{IsLawfulFrom, IsRun};
-ghost use Rattle.flow_model.specs.Serial.{serial, table_at};
+ghost use Rattle.flow_model.specs.Serial.{serial, funcs_after};
 ghost use Rattle.flow_model.specs.SplitAbove.{exchanged_ran, split_landings, split_ran};
 ghost use Rattle.flow_model.specs.SplitAbove.{split_setup, two_rows, two_ways};
 ghost use Rattle.flow_model.specs.SteadyLanes.{mark, new_tuple, old_tuple, out_of_filter};
@@ -56,9 +56,9 @@ pub fn payments_alone()
 pub fn payments_have_an_order()
     ensures second { serial four_ran 2 ≡ 0 }
     ensures third { serial four_ran 3 ≡ 1 }
-    ensures before { table_at four_setup (serial four_ran 2) 1 ≡ table four_ran 2 1 }
-    ensures behind { table_at four_setup (serial four_ran 3) 1 ≡ table four_ran 3 1 }
-    ensures changed { table_at four_setup 1 1 ≡ Some (at_least (pos 5000)) }
+    ensures before { funcs_after four_setup (serial four_ran 2) 1 ≡ table four_ran 2 1 }
+    ensures behind { funcs_after four_setup (serial four_ran 3) 1 ≡ table four_ran 3 1 }
+    ensures changed { funcs_after four_setup 1 1 ≡ Some (at_least (pos 5000)) }
 {}
 
 /// It is no run where the sink never met the third payment.
@@ -75,9 +75,9 @@ pub fn a_late_turn_is_unlawful()
 /// turn; and each due is turned before an end.
 pub fn markers_stand_before_their_turn()
     ensures finished { IsFinished joining joined }
-    ensures missing { IsLawful joining unmarked → ⊥ }
-    ensures between { IsLawful joining parted → ⊥ }
-    ensures unturned { IsLawful joining unturned → ⊥ }
+    ensures missing { IsLawfulJournal joining unmarked → ⊥ }
+    ensures between { IsLawfulJournal joining parted → ⊥ }
+    ensures unturned { IsLawfulJournal joining unturned → ⊥ }
 {}
 
 /// Requests are issued directly after the row that they wait for: at the front for row 0, after the

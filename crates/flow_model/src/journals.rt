@@ -1,19 +1,20 @@
 // Laws of journals. Each function proves its clauses, and does nothing.
 ghost use Rattle.std.specs.Prelude.{◌≡◌, ◌↔◌, ◌++◌, ℕ, List};
 ghost use Rattle.sink_journal.specs.declared.journal.Entry.{Entry as EntryIs};
-ghost use Rattle.flow_model.specs.Law.{IsExecution, IsLawful, Progress, Duties, initial};
+ghost use Rattle.flow_model.specs.Law.{IsExecution, IsLawfulJournal, Progress, Duties, initial};
 ghost use Rattle.flow_model.specs.Law.{progress_after};
 ghost use Rattle.flow_model.specs.declared.topology.Lane.{Lane};
 ghost use Rattle.flow_model.specs.SetupView.{SetupView, Worker};
 ghost use Rattle.flow_model.specs.Points.{HasPoints, MayStandAtItsPlace};
-ghost use Rattle.flow_model.specs.Replay.{StateView, after_all, sent, shown};
+ghost use Rattle.flow_model.specs.Replay.{StateView, after_all, items_sent, shown};
 
 /// A replay goes on where an earlier one stopped, and what a longer journal shows is what its parts
 /// show.
 pub fn replays_go_on()
     ensures sent { (setup : SetupView) (who : Worker) (view : StateView) (lane : Lane)
-        (xs ys : List EntryIs) → sent setup who view lane (xs ++ ys)
-        ≡ sent setup who view lane xs ++ sent setup who (after_all setup who view xs) lane ys }
+        (xs ys : List EntryIs) → items_sent setup who view lane (xs ++ ys)
+        ≡ items_sent setup who view lane xs
+        ++ items_sent setup who (after_all setup who view xs) lane ys }
     ensures view { (setup : SetupView) (who : Worker) (view : StateView) (xs ys : List EntryIs)
         → after_all setup who view (xs ++ ys) ≡ after_all setup who (after_all setup who view xs)
         ys }
@@ -40,5 +41,5 @@ pub fn the_law_goes_on()
 /// every request is turned.
 pub fn lawful_journals_have_points()
     ensures { (duties : Duties) (journal : List EntryIs)
-        → IsLawful duties journal ↔ HasPoints duties journal }
+        → IsLawfulJournal duties journal ↔ HasPoints duties journal }
 {}

@@ -12,7 +12,7 @@ ghost use Rattle.flow_model.specs.Covers.{asks, covers, covers_edge, is_head};
 ghost use Rattle.flow_model.specs.Lanes.{lanes_in};
 ghost use Rattle.flow_model.specs.Least.{ArePlansLeast};
 ghost use Rattle.flow_model.specs.Planned.{IsPlanned, copies_at};
-ghost use Rattle.flow_model.specs.Requests.{change_of, changes};
+ghost use Rattle.flow_model.specs.Requests.{change_by, changes};
 ghost use Rattle.flow_model.specs.Setup.{setup_view};
 ghost use Rattle.flow_model.specs.Workers.{workers_in};
 
@@ -38,18 +38,18 @@ pub fn changed_nodes_are_asked(setup: &Setup)
 /// request's function is at most the roof of its node.
 pub fn requests_keep_kinds(setup: &Setup)
     ensures splits { (request node : ℕ) (change : ChangeIs)
-        → change_of (setup_view setup.now) request node ≡ Some change
+        → change_by (setup_view setup.now) request node ≡ Some change
         → IsTrue (is_split change.func) → IsTrue (has (setup_view setup.now).splits node) }
     ensures copies { (request node : ℕ) (change : ChangeIs)
-        → change_of (setup_view setup.now) request node ≡ Some change
+        → change_by (setup_view setup.now) request node ≡ Some change
         → IsTrue (is_replicate change.func) → IsTrue
         (copies_at (setup_view setup.now).job.nodes node) }
     ensures roof { (request node : ℕ) (change : ChangeIs) (def : NodeIs)
-        → change_of (setup_view setup.now) request node ≡ Some change
+        → change_by (setup_view setup.now) request node ≡ Some change
         → slice_get (setup_view setup.now).job.nodes node ≡ Some def
         → fan_out change.func ≤ def.roof }
     ensures ports { (request node : ℕ) (change : ChangeIs)
-        → change_of (setup_view setup.now) request node ≡ Some change
+        → change_by (setup_view setup.now) request node ≡ Some change
         → IsTrue (are_ports (setup_view setup.now).job.edges node change.func) }
 {}
 

@@ -2,7 +2,7 @@
 ghost use Rattle.std.specs.Prelude.{◌≡◌, ◌<◌, ◌+◌, ◌-◌, ◌^◌, OnErr, OnOk, Some, length};
 ghost use Rattle.jobs.specs.declared.func.Func.{Func as FuncIs};
 ghost use Rattle.flow_model.specs.InForce.{counts_with, func_in as func_there};
-ghost use Rattle.flow_model.specs.Requests.{change_of, func_with};
+ghost use Rattle.flow_model.specs.Requests.{change_by, func_with};
 ghost use Rattle.flow_model.specs.Setup.{setup_view};
 ghost use Rattle.flow_model.specs.WorkerState.{AreMade, HasEndedLane, IsInForce, IsProcessed};
 ghost use Rattle.flow_model.specs.WorkerState.{IsTurned, first_state};
@@ -108,10 +108,10 @@ impl WorkerState {
         ensures func { (func : FuncIs)
             → func_there (setup_view setup.now) node self.old.func ≡ Some func
             → func_there (setup_view setup.now) node self.new.func
-            ≡ Some (func_with (change_of (setup_view setup.now) request node) func) }
+            ≡ Some (func_with (change_by (setup_view setup.now) request node) func) }
         ensures rest { self.new ≡ record self.old {
           func = self.new.func;
-          counts = counts_with (change_of (setup_view setup.now) request node) self.old.counts;
+          counts = counts_with (change_by (setup_view setup.now) request node) self.old.counts;
           last = request;
         } }
     {

@@ -15,7 +15,7 @@ use Rattle.tuple_trace.specs.declared.tuple.Tuple.{Tuple}
 use Rattle.flow_model.specs.Lanes.{is_same_lane, lane_of, lanes}
 use Rattle.flow_model.specs.declared.topology.Lane.{Lane}
 use Rattle.flow_model.specs.SetupView.{SetupView, Worker}
-use Rattle.flow_model.specs.Replay.{StateView, Put, after, after_all, items_on, put_out, puts, sent, shown}
+use Rattle.flow_model.specs.Replay.{StateView, Put, after, after_all, items_on, put_out, puts, items_sent, shown}
 use Rattle.flow_model.proofs.JournalLemmas.{after_all-append, sent-append, shown-append}
 use Rattle.flow_model.proofs.LaneLemmas.{lane_self, same_lane, same_number}
 use Rattle.flow_replay.specs.declared.worker_run.WorkerRun.{WorkerRun}
@@ -58,17 +58,17 @@ mine job who (out ∷ outs) l = go (is_same_lane (lane_of job (Some who.number) 
 -- ---- one entry more at one worker
 
 abbrev pub sent_by : SetupView → Lane → ℕ → List Entry → List Item
-sent_by setup lane w journal = sent setup (nth_worker setup.job w) (first_view setup (nth_worker setup.job
+sent_by setup lane w journal = items_sent setup (nth_worker setup.job w) (first_view setup (nth_worker setup.job
     w)) lane journal
 
 pub sent-push : (setup : SetupView) (who : Worker) (view : StateView) (lane : Lane) (journal : List Entry)
     (e : Entry)
-    → sent setup who view lane (journal ++ e ∷ [])
-    ≡ sent setup who view lane journal ++ items_on lane (puts setup who (after_all setup who
+    → items_sent setup who view lane (journal ++ e ∷ [])
+    ≡ items_sent setup who view lane journal ++ items_on lane (puts setup who (after_all setup who
     view journal) e)
 sent-push setup who view lane journal e =
     sent-append setup who view lane journal (e ∷ [])
-    ∙ ap (λ (l : List Item). sent setup who view lane journal ++ l) (append-nil (items_on lane
+    ∙ ap (λ (l : List Item). items_sent setup who view lane journal ++ l) (append-nil (items_on lane
     (puts setup who (after_all setup who view journal) e)))
 
 sent_step : (setup : SetupView) (w : ℕ) (e : Entry) (old new : List WorkerRun) →

@@ -7,8 +7,8 @@ use Rattle.tuple_trace.specs.declared.tuple.Item.{Item}
 use Rattle.flow_model.specs.Lanes.{lanes_out}
 use Rattle.flow_model.specs.declared.topology.Lane.{Lane}
 use Rattle.flow_model.specs.SetupView.{SetupView, Worker}
-use Rattle.flow_model.specs.Replay.{Put, StateView, after, after_all, items_on, puts, sent, with_change}
-use Rattle.flow_model.specs.Requests.{change_of}
+use Rattle.flow_model.specs.Replay.{Put, StateView, after, after_all, items_on, puts, items_sent, after_change}
+use Rattle.flow_model.specs.Requests.{change_by}
 use Rattle.versions.specs.declared.request.Change.{Change}
 use Rattle.flow_replay.specs.declared.replaying.Replaying.{Replaying}
 use Rattle.flow_replay.specs.inner.Replays.{IsEntered, IsReplayed, replay_view, with_puts}
@@ -39,7 +39,7 @@ replayed_none setup who view replay begun lists = record {
 }
   where
     none : (xs : List Lane) → replicate (length xs) []
-        ≡ map (λ (lane : Lane). sent setup who view lane []) xs
+        ≡ map (λ (lane : Lane). items_sent setup who view lane []) xs
     none [] = refl
     none (x ∷ xs) = ap (λ (rest : List (List Item)). [] ∷ rest) (none xs)
 
@@ -54,7 +54,7 @@ replayed_more setup who view journal this old new so_far step = record {
       step.lists ∙ (ap (λ (l : StateView). with_puts (lanes_out setup.job who.number)
       (puts setup who l this) old.lists.items) so_far.view_is
       ∙ (ap (with_puts (lanes_out setup.job who.number) these) so_far.lists_are
-      ∙ (with_puts-map (λ (lane : Lane). sent setup who view lane journal) these
+      ∙ (with_puts-map (λ (lane : Lane). items_sent setup who view lane journal) these
       (lanes_out setup.job who.number)
       ∙ more (lanes_out setup.job who.number))));
 }
@@ -63,14 +63,14 @@ replayed_more setup who view journal this old new so_far step = record {
     these = puts setup who (after_all setup who view journal) this
 
     more : (xs : List Lane) →
-        map (λ (lane : Lane). sent setup who view lane journal ++ items_on lane these) xs
-        ≡ map (λ (lane : Lane). sent setup who view lane (journal ++ this ∷ [])) xs
+        map (λ (lane : Lane). items_sent setup who view lane journal ++ items_on lane these) xs
+        ≡ map (λ (lane : Lane). items_sent setup who view lane (journal ++ this ∷ [])) xs
     more [] = refl
     more (x ∷ xs) =
         rw (more xs) (ap (λ (list : List Item).
-        list ∷ map (λ (lane : Lane). sent setup who view lane (journal ++ this ∷ [])) xs)
+        list ∷ map (λ (lane : Lane). items_sent setup who view lane (journal ++ this ∷ [])) xs)
         (sym (sent-append setup who view x journal (this ∷ [])
-        ∙ ap (λ (rest : List Item). sent setup who view x journal ++ rest)
+        ∙ ap (λ (rest : List Item). items_sent setup who view x journal ++ rest)
         (append-nil (items_on x these)))))
 
 -- an entry ends at most one lane
@@ -81,7 +81,7 @@ ended_grows setup who this old new step =
     (l : StateView). l.ended) step.view in
     omega (arith, same, go this)
   where
-    kept : (change : Option Change) → (with_change change (replay_view setup who old)).ended
+    kept : (change : Option Change) → (after_change change (replay_view setup who old)).ended
         ≡ old.state.ended
     kept None = refl
     kept (Some change) = refl
@@ -89,5 +89,5 @@ ended_grows setup who this old new step =
     go : (e : Entry) → (after setup who (replay_view setup who old) e).ended ≤ old.state.ended + 1
     go (entry.Met lane tuple) = omega arith
     go (entry.Marked lane request) = omega arith
-    go (entry.Turned request) = omega (arith, kept (change_of setup request who.node))
+    go (entry.Turned request) = omega (arith, kept (change_by setup request who.node))
     go (entry.Ended lane) = omega arith

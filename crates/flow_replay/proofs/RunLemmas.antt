@@ -12,7 +12,7 @@ use Rattle.sink_journal.specs.declared.journal.Feed.TheVariants as feed
 use Rattle.tuple_trace.specs.declared.row.Row.{Row}
 use Rattle.tuple_trace.specs.declared.tuple.Item.{Item}
 use Rattle.tuple_trace.specs.declared.tuple.Item.TheVariants as item
-use Rattle.flow_model.specs.Feeding.{fed_put, fed_puts, fed_tuple, row_at}
+use Rattle.flow_model.specs.Feeding.{fed_put, fed_puts, fed_tuple, row_numbered}
 use Rattle.flow_model.specs.Lanes.{is_same_lane, lane_at, lane_of, lanes}
 use Rattle.flow_model.specs.Law.{IsExecution, Progress, Duties, initial, progress_after}
 use Rattle.flow_model.specs.declared.topology.Lane.{Lane}
@@ -42,9 +42,9 @@ pub fed_puts-append : (job : JobView) (rows : List Row) (i j : ℕ) (xs ys : Lis
 fed_puts-append job rows i j [] ys e = let s : i ≡ j = omega (arith, e) in ap (λ (x : ℕ). fed_puts
     job rows x ys) s
 fed_puts-append job rows i j (feed.Fed k ∷ xs) ys e =
-    ap (λ (ps : List Put). fed_put job i (row_at rows k) ++ ps) (fed_puts-append job rows i j xs ys
+    ap (λ (ps : List Put). fed_put job i (row_numbered rows k) ++ ps) (fed_puts-append job rows i j xs ys
     e)
-    ∙ sym (append_assoc (fed_put job i (row_at rows k)) (fed_puts job rows i xs) (fed_puts job rows
+    ∙ sym (append_assoc (fed_put job i (row_numbered rows k)) (fed_puts job rows i xs) (fed_puts job rows
     j ys))
 fed_puts-append job rows i j (feed.Issued r ∷ xs) ys e = fed_puts-append job rows (i + 1) j xs ys
     (omega (arith, e))
@@ -187,8 +187,8 @@ feed_step setup rank rows feeds m k row old new there number far fed = record {
     source = (is_lane_of setup.job None row.source 0 row.tuple (lane_at setup.job fed.n)
         fed.along).sender_is
 
-    row_there : row_at rows row.tuple.row ≡ Some row
-    row_there = let s : row.tuple.row ≡ suc k = omega (arith, number) in ap (row_at rows) s ∙ there
+    row_there : row_numbered rows row.tuple.row ≡ Some row
+    row_there = let s : row.tuple.row ≡ suc k = omega (arith, number) in ap (row_numbered rows) s ∙ there
 
     puts_are : fed_puts setup.job rows 0 (feeds ++ feed.Fed row.tuple.row ∷ [])
         ≡ fed_puts setup.job rows 0 feeds ++ put ∷ []
@@ -196,7 +196,7 @@ feed_step setup rank rows feeds m k row old new there number far fed = record {
         fed_puts-append setup.job rows 0 m feeds (feed.Fed row.tuple.row ∷ []) (let d = far.counted
         in omega (arith, d))
         ∙ ap (λ (ps : List Put). fed_puts setup.job rows 0 feeds ++ ps) (append-nil (fed_put
-        setup.job m (row_at rows row.tuple.row)) ∙ ap (fed_put setup.job m) row_there)
+        setup.job m (row_numbered rows row.tuple.row)) ∙ ap (fed_put setup.job m) row_there)
 
     follow : (w : ℕ) → w < length old → IsExecution (duties setup 0 (nth_worker setup.job w)) (waiting
         setup (nth_worker setup.job w) m) (fed.delivered.met w).more

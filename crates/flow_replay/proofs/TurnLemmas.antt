@@ -16,7 +16,7 @@ use Rattle.flow_model.specs.Covers.{covers, covers_edge}
 use Rattle.flow_model.specs.Lanes.{lanes, lanes_in, lanes_out, lanes_that, marked_lanes, senders}
 use Rattle.flow_model.specs.declared.topology.Lane.{Lane}
 use Rattle.flow_model.specs.SetupView.{SetupView, Worker}
-use Rattle.flow_model.specs.Replay.{StateView, Put, after, after_all, came_in, item_on, items_on, marker, put_on_each, puts, sent, shown}
+use Rattle.flow_model.specs.Replay.{StateView, Put, after, after_all, came_in, item_on, items_on, marker, put_on_each, puts, items_sent, shown}
 use Rattle.flow_model.specs.Workers.{nth_worker, workers_in}
 use Rattle.flow_model.proofs.ElementLemmas.{AreDistinct, IsIn, distinct_filter, filter_in, in_filter}
 use Rattle.flow_model.proofs.JournalLemmas.{sent-append, shown-append}
@@ -86,7 +86,7 @@ not_that test job n l g t h =
 -- ---- what a turn puts and shows
 
 turn_sent : (setup : SetupView) (who : Worker) (view : StateView) (l : Lane) (r : ℕ) (ns : List ℕ) →
-    sent setup who view l (marks r ns ++ entry.Turned r ∷ [])
+    items_sent setup who view l (marks r ns ++ entry.Turned r ∷ [])
     ≡ items_on l (puts setup who view (entry.Turned r))
 turn_sent setup who view l r [] = append-nil (items_on l (puts setup who view (entry.Turned r)))
 turn_sent setup who view l r (n ∷ ns) = turn_sent setup who view l r ns
@@ -271,7 +271,7 @@ turns_conserve setup fed r old new covering long gain conserved n l g =
 -- the last of the ends puts what all put
 ends_sent : (setup : SetupView) (who : Worker) (l : Lane) (view : StateView) (n : ℕ) (ns : List ℕ) →
     view.ended + length (n ∷ ns) ≡ length (lanes_in setup.job who.number)
-    → sent setup who view l (ended_all (n ∷ ns))
+    → items_sent setup who view l (ended_all (n ∷ ns))
     ≡ items_on l (put_on_each item.Last (lanes_out setup.job who.number))
 ends_sent setup who l view n [] h =
     let q : (view.ended + 1 == length (lanes_in setup.job who.number))
@@ -287,7 +287,7 @@ ends_sent setup who l view n (m ∷ ns) h =
     ≡ false = ne_eqb (view.ended + 1) (length (lanes_in setup.job who.number)) (λ e. absurd
     (omega (arith, h, e))) in
     ap (λ (b : Bool). items_on l (cond b (put_on_each item.Last (lanes_out setup.job who.number))
-    []) ++ sent setup who (after setup who view (entry.Ended n)) l (ended_all (m ∷ ns))) q
+    []) ++ items_sent setup who (after setup who view (entry.Ended n)) l (ended_all (m ∷ ns))) q
     ∙ ends_sent setup who l (after setup who view (entry.Ended n)) m ns (omega (arith, h))
 
 end_shown : (setup : SetupView) (n : ℕ) (l : Lane) → slice_get (lanes setup.job) n ≡ Some l →
@@ -327,7 +327,7 @@ sent_ended setup n l s old new covering g e zero_ended grown =
     here = after_all setup who (first_view setup who) old
 
     some : (ns : List ℕ) → ns ≡ lanes_in setup.job s → (k : ℕ) → IsIn k ns →
-        sent setup who here l (ended_all ns) ≡ items_on l (put_on_each item.Last (lanes_out
+        items_sent setup who here l (ended_all ns) ≡ items_on l (put_on_each item.Last (lanes_out
         setup.job who.number))
     some [] q k i = absurd i
     some (m ∷ ns) q k i =

@@ -8,7 +8,7 @@ use Rattle.flow_model.specs.declared.topology.Lane.{Lane}
 use Rattle.flow_model.specs.Begin.{Begin, view_at}
 use Rattle.flow_model.specs.Lanes.{lanes_out}
 use Rattle.flow_model.specs.SetupView.{SetupView, Worker}
-use Rattle.flow_model.specs.Replay.{StateView, sent}
+use Rattle.flow_model.specs.Replay.{StateView, items_sent}
 use Rattle.flow_model.specs.Workers.{nth_worker}
 
 -- the counts of a worker at a beginning
@@ -23,4 +23,4 @@ begun_view setup begin worker =
 -- what the replay of a journal sends on each lane out, from what is in force on
 abbrev pub all_sent : SetupView → Worker → StateView → List Entry → List (List Item)
 all_sent setup who view journal =
-    map (λ (lane : Lane). sent setup who view lane journal) (lanes_out setup.job who.number)
+    map (λ (lane : Lane). items_sent setup who view lane journal) (lanes_out setup.job who.number)

@@ -3,7 +3,7 @@ use Rattle.std.proofs.Common.{◌≡◌, ℕ, zero, suc, ◌<◌, List, [], ◌�
 use Rattle.std.specs.List.{All}
 use Rattle.std.proofs.lemmas.List.Elements.{All-nil, All-cons, All-head, All-tail, All-map}
 use Rattle.flow_runner.specs.Runner.{RunnerIs, EndpointsIs}
-use Rattle.flow_runner.specs.Rule.{times, numbers, fixed_of, Agrees, AreListed}
+use Rattle.flow_runner.specs.Rule.{times, numbers, fixed_of, HasItsEndpoints, AreListed}
 
 pub same_marks : {X Y : Type 0} (f : X → Y) (xs : List X) (i : ℕ) (x y : X) → x ≡ slice_index_or xs i x → f y ≡ f x → map f (slice_set xs i y) ≡ map f xs
 same_marks f [] i x y e h = refl
@@ -24,7 +24,7 @@ numbers_by_seats (r ∷ rs) = ap (λ w. r.number ∷ w) (numbers_by_seats rs)
 pub same_numbers : (rs bs : List RunnerIs) → map fixed_of bs ≡ map fixed_of rs → numbers bs ≡ numbers rs
 same_numbers rs bs e = numbers_by_seats bs ∙ (ap (λ w. map (λ (p : ℕ × EndpointsIs). p.0) w) e ∙ sym (numbers_by_seats rs))
 
-pub same_agree : (charter : List EndpointsIs) (rs bs : List RunnerIs) → map fixed_of bs ≡ map fixed_of rs → All (Agrees charter) rs → All (Agrees charter) bs
+pub same_agree : (charter : List EndpointsIs) (rs bs : List RunnerIs) → map fixed_of bs ≡ map fixed_of rs → All (HasItsEndpoints charter) rs → All (HasItsEndpoints charter) bs
 same_agree charter rs bs e all =
     let P : List (ℕ × EndpointsIs) → Type 0 = λ w. All (AgreesAt charter) w in
     from_map (AgreesAt charter) fixed_of bs (subst P (sym e) (All-map (AgreesAt charter) fixed_of rs all))

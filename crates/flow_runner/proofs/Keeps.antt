@@ -9,7 +9,7 @@ use lib.ListN.{get_elem?}
 use Rattle.crossbeam_queue.specs.Fifo.{Pushes, Pops, Forks, Merges, Learns}
 use Rattle.flow_runner.specs.Runner.{RunnerIs, EndpointsIs}
 use Rattle.flow_runner.specs.declared.rule.Tally.{Tally}
-use Rattle.flow_runner.specs.Rule.{tally, one_if, up_to, times, without, numbers, Agrees, IsEachOnce}
+use Rattle.flow_runner.specs.Rule.{tally, one_if, all_below, times, without, numbers, HasItsEndpoints, IsEachOnce}
 use Rattle.flow_runner.proofs.Totals.{total_set, total_snoc, alone, each_set, each_snoc}
 
 pub times-append : (y : ℕ) (xs ys : List ℕ) → times y (xs ++ ys) ≡ times y xs + times y ys
@@ -38,7 +38,7 @@ times-push y items x =
     let h = ap (times y) (map-append (λ (r : RunnerIs). r.number) items (x ∷ [])) in
     let k = times-append y (numbers items) (x.number ∷ []) in omega (arith, h, k)
 
-pub pushes : (charter : List EndpointsIs) (n port : ℕ) (v : Tally) (x : RunnerIs) → 0 < v.parts → 0 < times x.number v.list → Agrees charter x
+pub pushes : (charter : List EndpointsIs) (n port : ℕ) (v : Tally) (x : RunnerIs) → 0 < v.parts → 0 < times x.number v.list → HasItsEndpoints charter x
     → Pushes (IsEachOnce charter) n port v x (λ w. w ≡ tally v.parts (without x.number v.list))
 pushes charter n port v x p h a items views _ k at =
     let w : Tally = tally v.parts (without x.number v.list) in (
@@ -50,14 +50,14 @@ pushes charter n port v x p h a items views _ k at =
             let q = k.once y in
             let r = times-push y items x in
             let s = times-without x.number y v.list h in omega (arith, t, q, r, s);
-        agree = All-push (Agrees charter) items x k.agree a;
+        agree = All-push (HasItsEndpoints charter) items x k.agree a;
         idle = each_set Idle views port w (λ z. absurd (omega (arith, z, p))) k.idle;
       },
       refl,
     )
 
 pub pops : (charter : List EndpointsIs) (port : ℕ) (v : Tally) → 0 < v.parts
-    → Pops (IsEachOnce charter) port v (λ x w. (w ≡ tally v.parts (v.list ++ x.number ∷ [])) × Agrees charter x)
+    → Pops (IsEachOnce charter) port v (λ x w. (w ≡ tally v.parts (v.list ++ x.number ∷ [])) × HasItsEndpoints charter x)
 pops charter port v p x items views k at =
     let w : Tally = tally v.parts (v.list ++ x.number ∷ []) in (
       w,
@@ -67,10 +67,10 @@ pops charter port v p x items views k at =
             let t = total_set (λ (u : Tally). times y u.list) views port v w at in
             let q = k.once y in
             let s = times-append y v.list (x.number ∷ []) in omega (arith, t, q, s);
-        agree = All-tail (Agrees charter) x items k.agree;
+        agree = All-tail (HasItsEndpoints charter) x items k.agree;
         idle = each_set Idle views port w (λ z. absurd (omega (arith, z, p))) k.idle;
       },
-      (refl, All-head (Agrees charter) x items k.agree),
+      (refl, All-head (HasItsEndpoints charter) x items k.agree),
     )
 
 pub learns : (charter : List EndpointsIs) (port : ℕ) (v : Tally)
@@ -114,22 +114,22 @@ merges charter port v other u p items views k at apart at' =
 one_more : (y n : ℕ) → one_if (nat_lt y n) + one_if (n == y) ≡ one_if (nat_lt y (suc n))
 one_more y n = grind (arith, nat_tests)
 
-pub times-up_to : (y n : ℕ) → times y (up_to n) ≡ one_if (nat_lt y n)
+pub times-up_to : (y n : ℕ) → times y (all_below n) ≡ one_if (nat_lt y n)
 times-up_to y zero = grind (arith, nat_tests)
 times-up_to y (suc n) =
     let h = times-up_to y n in
-    let k = times-append y (up_to n) (n ∷ []) in
+    let k = times-append y (all_below n) (n ∷ []) in
     let m = one_more y n in omega (arith, h, k, m)
 
-first_full : (charter : List EndpointsIs) (port : ℕ) (v : Tally) → get_elem? (tally 16 (up_to (length charter)) ∷ []) port ≡ some v → v.parts ≡ 0 → v.list ≡ []
+first_full : (charter : List EndpointsIs) (port : ℕ) (v : Tally) → get_elem? (tally 16 (all_below (length charter)) ∷ []) port ≡ some v → v.parts ≡ 0 → v.list ≡ []
 first_full charter zero v e z = let h : 16 ≡ v.parts = ap (λ (u : Tally). u.parts) (some-injective _ v e) in absurd (omega (arith, h, z))
 first_full charter (suc port) v e z = absurd (some-ne-none v (sym e))
 
-pub begins : (charter : List EndpointsIs) → IsEachOnce charter [] (tally 16 (up_to (length charter)) ∷ [])
+pub begins : (charter : List EndpointsIs) → IsEachOnce charter [] (tally 16 (all_below (length charter)) ∷ [])
 begins charter = record {
   parts = refl;
   once = λ y. let h = times-up_to y (length charter) in omega (arith, h);
-  agree = All-nil (Agrees charter);
+  agree = All-nil (HasItsEndpoints charter);
   idle = λ port v e z. first_full charter port v e z;
 }
 

@@ -12,14 +12,14 @@ abbrev pub tally : ℕ → List ℕ → Tally
 tally parts list = record { parts = parts; list = list }
 
 -- f of each, added up
-abbrev pub total : {V : Type 0} → (V → ℕ) → List V → ℕ
-total f [] = 0
-total f (x ∷ xs) = f x + total f xs
+abbrev pub added_up : {V : Type 0} → (V → ℕ) → List V → ℕ
+added_up f [] = 0
+added_up f (x ∷ xs) = f x + added_up f xs
 
 -- the numbers below n
-abbrev pub up_to : ℕ → List ℕ
-up_to zero = []
-up_to (suc n) = up_to n ++ n ∷ []
+abbrev pub all_below : ℕ → List ℕ
+all_below zero = []
+all_below (suc n) = all_below n ++ n ∷ []
 
 abbrev pub one_if : Bool → ℕ
 one_if b = cond b 1 0
@@ -45,8 +45,8 @@ abbrev pub HasEnded : RunnerIs → Type 0
 HasEnded r = r.is_done ≡ true
 
 -- under the runner's number the charter has its endpoints
-abbrev pub Agrees : List EndpointsIs → RunnerIs → Type 0
-Agrees charter r =
+abbrev pub HasItsEndpoints : List EndpointsIs → RunnerIs → Type 0
+HasItsEndpoints charter r =
     (r.number < length charter) × (slice_index_or charter r.number r.endpoints ≡ r.endpoints)
 
 -- each of the numbers below n is in the list once, and no other
@@ -68,15 +68,15 @@ IdleIsEmpty views =
 -- the queue agrees with the charter.
 pub record IsEachOnce (charter : List EndpointsIs) (items : List RunnerIs) (views : List Tally)
     : Type 0 where
-  pub parts : total (λ v. v.parts) views ≡ MAX_THREADS
+  pub parts : added_up (λ v. v.parts) views ≡ MAX_THREADS
   pub once :
-      (x : ℕ) → times x (numbers items) + total (λ v. times x v.list) views
+      (x : ℕ) → times x (numbers items) + added_up (λ v. times x v.list) views
       ≡ one_if (nat_lt x (length charter))
-  pub agree : All (Agrees charter) items
+  pub agree : All (HasItsEndpoints charter) items
   pub idle : IdleIsEmpty views
 
 -- These runners are those of a pass's list, and agree with the charter.
 pub record AreListed (charter : List EndpointsIs) (rs : List RunnerIs) (list : List ℕ)
     : Type 0 where
   pub same : (x : ℕ) → times x (numbers rs) ≡ times x list
-  pub agree : All (Agrees charter) rs
+  pub agree : All (HasItsEndpoints charter) rs

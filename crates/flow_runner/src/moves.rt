@@ -1,7 +1,8 @@
 ghost use Rattle.std.specs.Prelude.{◌≡◌, ◌<◌, ◌+◌, ◌++◌, ◌∷◌, [], IfErr, IfNone, IfOk, IfSome};
 ghost use Rattle.std.specs.Prelude.{OnErr, OnOk, length};
 ghost use Rattle.crossbeam_queue.specs.SegTies.{IsSegPassOf};
-ghost use Rattle.flow_runner.specs.Rule.{Agrees, HasEachOf, tally, times, up_to, without};
+ghost use Rattle.flow_runner.specs.Rule.{HasItsEndpoints, HasEachOf, tally, times, all_below};
+ghost use Rattle.flow_runner.specs.Rule.{without};
 
 use crate::charter::Charter;
 use crate::rule::{EachOnce, Gives, Queue, Shares, Takes, Tally};
@@ -22,7 +23,7 @@ pub fn take<'s, R: Wait, L: Lanes, C: Charter>(
     requires queue { IsSegPassOf queue.now pass.old }
     requires part { 0 < pass.old.me.view.client.parts }
     ensures queue { IsSegPassOf queue.now pass.new }
-    ensures agrees { IfSome result (Agrees C.endpoints) }
+    ensures agrees { IfSome result (HasItsEndpoints C.endpoints) }
     ensures some { IfSome result (λ r. pass.new.me.view.client
         ≡ tally pass.old.me.view.client.parts (pass.old.me.view.client.list ++ r.number ∷ [])) }
     ensures none { IfNone result (pass.new.me.view.client ≡ pass.old.me.view.client) }
@@ -43,7 +44,7 @@ pub fn give<'s, R: Wait, L: Lanes, C: Charter>(
     requires queue { IsSegPassOf queue.now pass.old }
     requires part { 0 < pass.old.me.view.client.parts }
     requires has { 0 < times runner.number pass.old.me.view.client.list }
-    requires charter { Agrees C.endpoints runner }
+    requires charter { HasItsEndpoints C.endpoints runner }
     ensures queue { IsSegPassOf queue.now pass.new }
     ensures ok { OnOk result (pass.new.me.view.client ≡ tally pass.old.me.view.client.parts
         (without runner.entry.number pass.old.me.view.client.list)) }
@@ -89,7 +90,8 @@ pub fn open<'s, L: Lanes, C: Charter>(
     alloc: Global,
 ) -> Result<(Queue<'s, L, C>, SegPass<Runner<'s, L, C>, Tally>), AllocError>
     ensures queue { IfOk result (λ q. IsSegPassOf q.0 q.1) }
-    ensures first { IfOk result (λ q. q.1.me.view.client ≡ tally MAX_THREADS (up_to (length C.endpoints))) }
+    ensures first { IfOk result (λ q. q.1.me.view.client
+        ≡ tally MAX_THREADS (all_below (length C.endpoints))) }
 {
     RuledSegQueue::<Runner<'s, L, C>, Tally, EachOnce<C>>::with_rule(alloc)
 }

@@ -23,11 +23,11 @@ pub struct EachOnce<C> {
 impl<'s, L: Lanes, C: Charter> Protocol<Runner<'s, L, C>, Tally> for EachOnce<C> {
     ghost use Rattle.std.specs.Prelude.{length};
     ghost use Rattle.tuple_trace.specs.declared.limits.TheConstants.{MAX_THREADS};
-    ghost use Rattle.flow_runner.specs.Rule.{tally, up_to, IsEachOnce};
+    ghost use Rattle.flow_runner.specs.Rule.{tally, all_below, IsEachOnce};
 
     ghost holds = { λ items views. IsEachOnce C.endpoints items views };
 
-    ghost first = { tally MAX_THREADS (up_to (length C.endpoints)) };
+    ghost first = { tally MAX_THREADS (all_below (length C.endpoints)) };
 }
 
 /// The step of a pop.
@@ -37,9 +37,10 @@ pub struct Takes<C> {
 
 impl<'s, L: Lanes, C: Charter> Outcome<Runner<'s, L, C>, Tally> for Takes<C> {
     ghost use Rattle.std.specs.Prelude.{◌++◌, ◌∷◌, []};
-    ghost use Rattle.flow_runner.specs.Rule.{tally, Agrees};
+    ghost use Rattle.flow_runner.specs.Rule.{tally, HasItsEndpoints};
 
-    ghost then = { λ v x w. (w ≡ tally v.parts (v.list ++ x.number ∷ [])) × Agrees C.endpoints x };
+    ghost then = { λ v x w. (w ≡ tally v.parts (v.list ++ x.number ∷ []))
+        × HasItsEndpoints C.endpoints x };
 }
 
 impl<'s, L: Lanes, C: Charter> Lesson<Runner<'s, L, C>, Tally> for Takes<C> {

@@ -12,15 +12,15 @@ use Rattle.flow_model.specs.Setup.{setup_view}
 use Rattle.flow_model.specs.Workers.{workers_in}
 use Rattle.flow_model.specs.declared.setup.Setup.{Setup}
 use Rattle.flow_model.proofs.SizeLemmas.{workers-few}
-use Rattle.flow_worker.specs.Pairs.{Each}
+use Rattle.flow_worker.specs.Pairs.{EachOne}
 use Rattle.flow_worker.specs.Worker.{IsWorker, WorkerIs}
-use Rattle.flow_runners.specs.Crew.{AreWorkers, fixed_in, number_in, runner_of}
-use Rattle.flow_runner.specs.Rule.{Agrees, AreListed, fixed_of, numbers, times, without}
+use Rattle.flow_runners.specs.Crew.{AreWorkers, fixed_in, crew_number, runner_of}
+use Rattle.flow_runner.specs.Rule.{HasItsEndpoints, AreListed, fixed_of, numbers, times, without}
 use Rattle.flow_runner.specs.Runner.{EndpointsIs, RunnerIs, endpoints_of}
 use Rattle.flow_runner.proofs.Bringing.{agreed, given, has}
 use Rattle.flow_runner.proofs.Keeps.{last_and_rest}
 
-pub numbers_runners : (ws : List WorkerIs) → numbers (map runner_of ws) ≡ map number_in ws
+pub numbers_runners : (ws : List WorkerIs) → numbers (map runner_of ws) ≡ map crew_number ws
 numbers_runners [] = refl
 numbers_runners (w ∷ ws) = ap (λ xs. w.number ∷ xs) (numbers_runners ws)
 
@@ -32,39 +32,39 @@ pub fixed_runners : (ws : List WorkerIs) → map fixed_of (map runner_of ws) ≡
 fixed_runners [] = refl
 fixed_runners (w ∷ ws) = ap (λ xs. fixed_in w ∷ xs) (fixed_runners ws)
 
-numbers_fixed : (ws : List WorkerIs) → map number_in ws ≡ map (λ (p : ℕ × EndpointsIs). p.0) (map fixed_in ws)
+numbers_fixed : (ws : List WorkerIs) → map crew_number ws ≡ map (λ (p : ℕ × EndpointsIs). p.0) (map fixed_in ws)
 numbers_fixed [] = refl
 numbers_fixed (w ∷ ws) = ap (λ xs. w.number ∷ xs) (numbers_fixed ws)
 
-pub same_numbers_in : (ws vs : List WorkerIs) → map fixed_in vs ≡ map fixed_in ws → map number_in vs ≡ map number_in ws
+pub same_numbers_in : (ws vs : List WorkerIs) → map fixed_in vs ≡ map fixed_in ws → map crew_number vs ≡ map crew_number ws
 same_numbers_in ws vs e = numbers_fixed vs ∙ (ap (map (λ (p : ℕ × EndpointsIs). p.0)) e ∙ sym (numbers_fixed ws))
 
 -- numbers in order are those of the places
-pub number_at : (a : ℕ) (ws : List WorkerIs) (i : ℕ) (w : WorkerIs) → map number_in ws ≡ range_with_len a (length ws) → slice_get ws i ≡ Some w → w.number ≡ a + i
+pub number_at : (a : ℕ) (ws : List WorkerIs) (i : ℕ) (w : WorkerIs) → map crew_number ws ≡ range_with_len a (length ws) → slice_get ws i ≡ Some w → w.number ≡ a + i
 number_at a [] i w e at = absurd (cc)
 number_at a (v ∷ vs) zero w e at =
     let head : v.number ≡ a = cc in
     let same : v ≡ w = cc in
     let here : v.number ≡ w.number = ap (λ (u : WorkerIs). u.number) same in omega (arith, head, here)
 number_at a (v ∷ vs) (suc i) w e at =
-    let tail : map number_in vs ≡ range_with_len (a + 1) (length vs) = cc in
+    let tail : map crew_number vs ≡ range_with_len (a + 1) (length vs) = cc in
     let h = number_at (a + 1) vs i w tail at in omega (arith, h)
 
-pub in_range : (a : ℕ) (ws : List WorkerIs) → ((i : ℕ) (w : WorkerIs) → slice_get ws i ≡ Some w → w.number ≡ a + i) → map number_in ws ≡ range_with_len a (length ws)
+pub in_range : (a : ℕ) (ws : List WorkerIs) → ((i : ℕ) (w : WorkerIs) → slice_get ws i ≡ Some w → w.number ≡ a + i) → map crew_number ws ≡ range_with_len a (length ws)
 in_range a [] h = refl
 in_range a (w ∷ ws) h =
     let head : w.number ≡ a = (let k = h 0 w refl in omega (arith, k)) in
     ap₂ (λ x xs. x ∷ xs) head (in_range (a + 1) ws (λ i v at. let k = h (suc i) v at in omega (arith, k)))
 
-pub in_order : (ws : List WorkerIs) → ((i : ℕ) (w : WorkerIs) → slice_get ws i ≡ Some w → w.number ≡ i) → map number_in ws ≡ range_with_len 0 (length ws)
+pub in_order : (ws : List WorkerIs) → ((i : ℕ) (w : WorkerIs) → slice_get ws i ≡ Some w → w.number ≡ i) → map crew_number ws ≡ range_with_len 0 (length ws)
 in_order ws h = in_range 0 ws (λ i w at. let k = h i w at in omega (arith, k))
 
-pub last_number : (a : ℕ) (ws : List WorkerIs) (w : WorkerIs) → map number_in (ws ++ w ∷ []) ≡ range_with_len a (length (ws ++ w ∷ []))
-    → (map number_in ws ≡ range_with_len a (length ws)) × (w.number ≡ a + length ws)
+pub last_number : (a : ℕ) (ws : List WorkerIs) (w : WorkerIs) → map crew_number (ws ++ w ∷ []) ≡ range_with_len a (length (ws ++ w ∷ []))
+    → (map crew_number ws ≡ range_with_len a (length ws)) × (w.number ≡ a + length ws)
 last_number a [] w e = let head : w.number ≡ a = cc in (refl, omega (arith, head))
 last_number a (v ∷ vs) w e =
     let head : v.number ≡ a = cc in
-    let tail : map number_in (vs ++ w ∷ []) ≡ range_with_len (a + 1) (length (vs ++ w ∷ [])) = cc in
+    let tail : map crew_number (vs ++ w ∷ []) ≡ range_with_len (a + 1) (length (vs ++ w ∷ [])) = cc in
     let h = last_number (a + 1) vs w tail in
     let k = h.1 in
     (ap₂ (λ x xs. x ∷ xs) head h.0, omega (arith, k))
@@ -79,7 +79,7 @@ at_all P (y ∷ ys) all zero x at =
     let same : y ≡ x = cc in let Q : _ → Type 0 = λ z. P z in subst Q same (All-head P y ys all)
 at_all P (y ∷ ys) all (suc i) x at = at_all P ys (All-tail P y ys all) i x at
 
-pub each_all : {X : Type 0} (P : X → Type 0) (xs : List X) → All P xs → Each P xs
+pub each_all : {X : Type 0} (P : X → Type 0) (xs : List X) → All P xs → EachOne P xs
 each_all P [] all = tt
 each_all P (x ∷ xs) all = (All-head P x xs all, each_all P xs (All-tail P x xs all))
 
@@ -108,9 +108,9 @@ module _ (charter : List EndpointsIs) where
   named_last all ws w r list e f b =
       let P : RunnerIs → Type 0 = λ s. 0 < times s.number list in subst P (sym f) (has charter (map runner_of ws) list (runner_of w) (last all ws w list e b))
 
-  pub agreed_last : (all ws : List WorkerIs) (w : WorkerIs) (r : RunnerIs) (list : List ℕ) → all ≡ ws ++ w ∷ [] → r ≡ runner_of w → AreListed charter (map runner_of all) list → Agrees charter r
+  pub agreed_last : (all ws : List WorkerIs) (w : WorkerIs) (r : RunnerIs) (list : List ℕ) → all ≡ ws ++ w ∷ [] → r ≡ runner_of w → AreListed charter (map runner_of all) list → HasItsEndpoints charter r
   agreed_last all ws w r list e f b =
-      let P : RunnerIs → Type 0 = λ s. Agrees charter s in subst P (sym f) (agreed charter (map runner_of ws) list (runner_of w) (last all ws w list e b))
+      let P : RunnerIs → Type 0 = λ s. HasItsEndpoints charter s in subst P (sym f) (agreed charter (map runner_of ws) list (runner_of w) (last all ws w list e b))
 
   pub pushed : (all ws : List WorkerIs) (w : WorkerIs) (r : RunnerIs) (list less : List ℕ) → all ≡ ws ++ w ∷ [] → r ≡ runner_of w → less ≡ without r.number list → AreListed charter (map runner_of all) list → AreListed charter (map runner_of ws) less
   pushed all ws w r list less e f l b =
@@ -121,10 +121,10 @@ law_last setup begin all ws w e law =
     let P : List WorkerIs → Type 0 = λ vs. All (IsWorker setup begin) vs in
     last_and_rest (IsWorker setup begin) ws w (subst P e law)
 
-pub numbers_last : (all ws : List WorkerIs) (w : WorkerIs) → all ≡ ws ++ w ∷ [] → map number_in all ≡ range_with_len 0 (length all)
-    → (map number_in ws ≡ range_with_len 0 (length ws)) × (w.number ≡ 0 + length ws)
+pub numbers_last : (all ws : List WorkerIs) (w : WorkerIs) → all ≡ ws ++ w ∷ [] → map crew_number all ≡ range_with_len 0 (length all)
+    → (map crew_number ws ≡ range_with_len 0 (length ws)) × (w.number ≡ 0 + length ws)
 numbers_last all ws w e n =
-    let P : List WorkerIs → Type 0 = λ vs. map number_in vs ≡ range_with_len 0 (length vs) in
+    let P : List WorkerIs → Type 0 = λ vs. map crew_number vs ≡ range_with_len 0 (length vs) in
     last_number 0 ws w (subst P e n)
 
 -- workers with the numbers of workers in order are in order

@@ -2,7 +2,7 @@
 use Rattle.std.proofs.Common.{◌∙◌, Bool, List, refl}
 use Rattle.sink_journal.specs.declared.journal.Feed.{Feed}
 use Rattle.flow_model.specs.Begin.{Begin}
-use Rattle.coordinator.specs.Turning.{IsTurn}
+use Rattle.coordinator.specs.Turning.{IsFeederTurn}
 use Rattle.coordinator.specs.Views.{FeederIs}
 use Rattle.coordinator.specs.declared.feeding.FeedTurn.{FeedTurn}
 use Rattle.flow_runners.specs.Crew.{HasFed, IsFeederOf, setup_in}
@@ -12,7 +12,7 @@ module _ {Seed Rest : Type 0} (live : Bool) (flow : Flow) (begin : Begin) (kept 
   pub fed_none : (f : FeederIs) (r : Rest) → IsFeederOf live flow begin f → HasFed live flow begin kept f r f r
   fed_none f r law = record { law = law; endpoints = refl; kept_is = λ seed k. k }
 
-  pub fed_turn : (answer : FeedTurn) (f g h : FeederIs) (r s t : Rest) → HasFed live flow begin kept f r g s → IsTurn live (setup_in flow) flow.rows.now answer g h
+  pub fed_turn : (answer : FeedTurn) (f g h : FeederIs) (r s t : Rest) → HasFed live flow begin kept f r g s → IsFeederTurn live (setup_in flow) flow.rows.now answer g h
       → ((seed : Seed) → kept seed g.feeds s → kept seed h.feeds t) → HasFed live flow begin kept f r h t
   fed_turn answer f g h r s t was turn kept_on = record {
     law = turn.law begin was.law;

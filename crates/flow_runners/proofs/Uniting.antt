@@ -4,7 +4,7 @@ use Rattle.std.specs.List.{All}
 use Rattle.std.proofs.lemmas.List.{map-append}
 use Rattle.std.proofs.lemmas.List.Elements.{All-append}
 use Rattle.flow_runner.specs.Runner.{RunnerIs, EndpointsIs}
-use Rattle.flow_runner.specs.Rule.{times, without, numbers, fixed_of, Agrees, AreListed, HasEachOf, HasEnded}
+use Rattle.flow_runner.specs.Rule.{times, without, numbers, fixed_of, HasItsEndpoints, AreListed, HasEachOf, HasEnded}
 use Rattle.flow_runner.proofs.Keeps.{times-append}
 use Rattle.flow_runner.proofs.Bringing.{has, agreed, given, in_hand}
 use Rattle.flow_runner.proofs.Fixed.{same_agree, same_numbers}
@@ -20,7 +20,7 @@ module _ (charter : List EndpointsIs) where
         let m = times-append x list more in
         let n = ap (times x) f in
         let p = a.same x in let q = b.same x in omega (arith, h, k, l, m, n, p, q);
-    agree = let P : List RunnerIs → Type 0 = λ w. All (Agrees charter) w in subst P (sym e) (All-append (Agrees charter) rs bs a.agree b.agree);
+    agree = let P : List RunnerIs → Type 0 = λ w. All (HasItsEndpoints charter) w in subst P (sym e) (All-append (HasItsEndpoints charter) rs bs a.agree b.agree);
   }
 
   pub along : (rs bs : List RunnerIs) (list : List ℕ) → rs ≡ bs → AreListed charter rs list → AreListed charter bs list
@@ -32,18 +32,18 @@ module _ (charter : List EndpointsIs) where
   pub named_last : (rs bs : List RunnerIs) (list : List ℕ) (r : RunnerIs) → rs ≡ bs ++ r ∷ [] → AreListed charter rs list → 0 < times r.number list
   named_last rs bs list r e b = has charter bs list r (along rs (bs ++ r ∷ []) list e b)
 
-  pub agreed_last : (rs bs : List RunnerIs) (list : List ℕ) (r : RunnerIs) → rs ≡ bs ++ r ∷ [] → AreListed charter rs list → Agrees charter r
+  pub agreed_last : (rs bs : List RunnerIs) (list : List ℕ) (r : RunnerIs) → rs ≡ bs ++ r ∷ [] → AreListed charter rs list → HasItsEndpoints charter r
   agreed_last rs bs list r e b = agreed charter bs list r (along rs (bs ++ r ∷ []) list e b)
 
   pub pushed : (rs bs : List RunnerIs) (list less : List ℕ) (r : RunnerIs) → rs ≡ bs ++ r ∷ [] → less ≡ without r.number list → AreListed charter rs list → AreListed charter bs less
   pushed rs bs list less r e f b = given charter bs list less r f (along rs (bs ++ r ∷ []) list e b)
 
   -- r was taken out of the queue
-  pub taken : (rs room bs : List RunnerIs) (list more : List ℕ) (r : RunnerIs) → room ≡ rs → bs ≡ room ++ r ∷ [] → more ≡ list ++ r.number ∷ [] → Agrees charter r → AreListed charter rs list → AreListed charter bs more
+  pub taken : (rs room bs : List RunnerIs) (list more : List ℕ) (r : RunnerIs) → room ≡ rs → bs ≡ room ++ r ∷ [] → more ≡ list ++ r.number ∷ [] → HasItsEndpoints charter r → AreListed charter rs list → AreListed charter bs more
   taken rs room bs list more r h e f a b = in_hand charter rs bs list more r r (e ∙ ap (λ w. w ++ r ∷ []) h) f refl refl a b
 
   -- turns after the queue is drained keep each runner
-  pub back : (rs bs : List RunnerIs) → map fixed_of bs ≡ map fixed_of rs → HasEachOf (length charter) (numbers rs) → All (Agrees charter) rs → All HasEnded bs → AreBack charter bs
+  pub back : (rs bs : List RunnerIs) → map fixed_of bs ≡ map fixed_of rs → HasEachOf (length charter) (numbers rs) → All (HasItsEndpoints charter) rs → All HasEnded bs → AreBack charter bs
   back rs bs same once agree done = record {
     once = λ x. ap (times x) (same_numbers rs bs same) ∙ once x;
     agree = same_agree charter rs bs same agree;

@@ -9,12 +9,12 @@ use Rattle.flow_worker.specs.Worker.{IsWorker, WorkerIs}
 use Rattle.coordinator.specs.Feeding.{IsFeeder}
 use Rattle.coordinator.specs.Views.{FeederIs}
 use Rattle.lane_core.specs.Lane.{end_of}
-use Rattle.flow_runner.specs.Rule.{Agrees, HasEachOf, HasEnded, numbers}
+use Rattle.flow_runner.specs.Rule.{HasItsEndpoints, HasEachOf, HasEnded, numbers}
 use Rattle.flow_runner.specs.Runner.{EndpointsIs, RunnerIs, endpoints_of}
 use Rattle.flow_runners.specs.declared.flow.Flow.{Flow}
 
-abbrev pub number_in : WorkerIs → ℕ
-number_in w = w.number
+abbrev pub crew_number : WorkerIs → ℕ
+crew_number w = w.number
 
 -- what no turn changes of a worker: its number and its endpoints
 abbrev pub fixed_in : WorkerIs → ℕ × EndpointsIs
@@ -35,7 +35,7 @@ pub record AreWorkers (setup : SetupView) (begin : Begin) (workers : List Worker
 -- Runners that come back: each that the charter names, once, and done.
 pub record AreBack (charter : List EndpointsIs) (rs : List RunnerIs) : Type 0 where
   pub once : HasEachOf (length charter) (numbers rs)
-  pub agree : All (Agrees charter) rs
+  pub agree : All (HasItsEndpoints charter) rs
   pub done : All HasEnded rs
 
 -- the setup of what is run

@@ -5,8 +5,9 @@ ghost use Rattle.crossbeam_queue.specs.SegTies.{IsSegPassOf};
 ghost use Rattle.flow_model.specs.Setup.{setup_view};
 ghost use Rattle.flow_worker.specs.Turning.{IsDone};
 ghost use Rattle.flow_worker.specs.Worker.{IsWorker};
-ghost use Rattle.flow_runners.specs.Crew.{fixed_in, number_in, runner_of};
-ghost use Rattle.flow_runner.specs.Rule.{Agrees, AreListed, HasEachOf, HasEnded, fixed_of, numbers};
+ghost use Rattle.flow_runners.specs.Crew.{fixed_in, crew_number, runner_of};
+ghost use Rattle.flow_runner.specs.Rule.{HasItsEndpoints, AreListed, HasEachOf, HasEnded, fixed_of};
+ghost use Rattle.flow_runner.specs.Rule.{numbers};
 
 use crossbeam_queue::SegPass;
 use flow_model::Setup;
@@ -32,7 +33,7 @@ pub fn push_all<'s, R: Wait, L: Lanes, C: Charter>(
     requires listed { AreListed C.endpoints (map runner_of workers.items)
         pass.old.me.view.client.list }
     requires setup { setup_view setup.now ≡ C.setup }
-    requires numbers { map number_in workers.items ≡ range_with_len 0 (length workers.items) }
+    requires numbers { map crew_number workers.items ≡ range_with_len 0 (length workers.items) }
     requires law { All (IsWorker (setup_view setup.now) C.begin) workers.items }
     ensures queue { IsSegPassOf queue.now pass.new }
     ensures parts { pass.new.me.view.client.parts ≡ MAX_THREADS }
@@ -61,7 +62,7 @@ pub fn drain<'s, R: Wait, L: Lanes, C: Charter>(
     requires listed { AreListed C.endpoints own.old.runners.items
         own.old.pass.me.view.client.list }
     ensures once { OnOk result (HasEachOf (length C.endpoints) (numbers own.new.runners.items)) }
-    ensures agree { OnOk result (All (Agrees C.endpoints) own.new.runners.items) }
+    ensures agree { OnOk result (All (HasItsEndpoints C.endpoints) own.new.runners.items) }
 {
     for _ in rt.forever() {
         own.runners.reserve(1)?;

@@ -2,11 +2,11 @@ ghost use Rattle.std.specs.Prelude.{◌≡◌, ◌<◌, ◌+◌, ◌≤◌, IfOk
 ghost use Rattle.std.specs.List.{All, range_with_len};
 ghost use Rattle.control_box.specs.Endpoints.{ShareBoxes};
 ghost use Rattle.crossbeam_queue.specs.SegTies.{IsSegPassOf};
-ghost use Rattle.flow_worker.specs.Pairs.{Each};
+ghost use Rattle.flow_worker.specs.Pairs.{EachOne};
 ghost use Rattle.flow_worker.specs.Turning.{IsDone};
 ghost use Rattle.flow_worker.specs.Worker.{IsWorker, WorkerIs};
 ghost use Rattle.flow_runners.specs.Crew.{AreBack, AreWorkers, HasFed, IsFeederOf, fixed_in};
-ghost use Rattle.flow_runners.specs.Crew.{number_in, runner_of, setup_in};
+ghost use Rattle.flow_runners.specs.Crew.{crew_number, runner_of, setup_in};
 ghost use Rattle.flow_runner.specs.Rule.{AreListed};
 ghost use Rattle.flow_runner.specs.Runner.{endpoints_of};
 
@@ -72,7 +72,7 @@ where
     requires boxes { ShareBoxes (F.feeder feeder).boxes.posters
         (map (λ (w : WorkerIs). w.owner) workers.items) }
     ensures workers { IfOk result (λ r. AreWorkers (setup_in flow.now) B.begin r.workers.items) }
-    ensures done { IfOk result (λ r. Each IsDone r.workers.items) }
+    ensures done { IfOk result (λ r. EachOne IsDone r.workers.items) }
     ensures fixed { IfOk result (λ r. map fixed_in r.workers.items ≡ map fixed_in workers.items) }
     ensures feeder { IfOk result (λ r. HasFed F.LIVE flow.now B.begin F.kept (F.feeder feeder)
         (F.rest feeder) (F.feeder r.feeder) (F.rest r.feeder)) }
@@ -92,7 +92,7 @@ where
     R: Threads + Wait + Sync,
     requires setup { setup_in flow.now ≡ C.setup }
     requires endpoints { C.endpoints ≡ map endpoints_of workers.items }
-    requires numbers { map number_in workers.items ≡ range_with_len 0 (length workers.items) }
+    requires numbers { map crew_number workers.items ≡ range_with_len 0 (length workers.items) }
     requires law { All (IsWorker (setup_in flow.now) C.begin) workers.items }
     requires feeder { IsFeederOf F.LIVE flow.now C.begin (F.feeder feeder) }
     ensures law { IfOk result (λ r. All (IsWorker (setup_in flow.now) C.begin) r.workers.items) }
@@ -132,7 +132,7 @@ where
     requires parts { pass.me.view.client.parts ≡ MAX_THREADS }
     requires listed { AreListed C.endpoints (map runner_of workers.items) pass.me.view.client.list }
     requires setup { setup_in flow.now ≡ C.setup }
-    requires numbers { map number_in workers.items ≡ range_with_len 0 (length workers.items) }
+    requires numbers { map crew_number workers.items ≡ range_with_len 0 (length workers.items) }
     requires law { All (IsWorker (setup_in flow.now) C.begin) workers.items }
     requires feeder { IsFeederOf F.LIVE flow.now C.begin (F.feeder feeder) }
     ensures back { IfOk result (λ r. AreBack C.endpoints r.runners.items) }

@@ -12,8 +12,8 @@ use Rattle.tuple_trace.specs.declared.tuple.Item.{Item}
 use Rattle.tuple_trace.specs.declared.tuple.Tuple.{Tuple}
 use Rattle.flow_model.specs.SetupView.{SetupView, Worker as WorkerOf}
 use Rattle.flow_model.proofs.ElementLemmas.{IsIn, contains_of_in, in_cases, in_of_contains, in_right}
-use Rattle.flow_worker.specs.Pairs.{EachPair, total}
-use Rattle.flow_worker.specs.Endpoints.{Gains, LaneInIs, LaneOutIs, SameButMemory, SameIn, SameOut, all_sent, all_taken}
+use Rattle.flow_worker.specs.Pairs.{EachPair, sum_each}
+use Rattle.flow_worker.specs.Endpoints.{Gains, LaneInIs, LaneOutIs, SameButMemory, SameIn, SameOut, sent_in_all, all_taken}
 use Rattle.flow_worker.specs.Worker.{WorkerIs}
 use Rattle.flow_worker.specs.Steps.{HasClosed, HasProcessed, HasTurned, all_emptied, emptied, ended_entries, laid_down, marked_entries}
 use Rattle.flow_worker.specs.Turning.{GrowsByOneAct, HasDone, SameEndpoints, added, moves}
@@ -27,13 +27,13 @@ pairs_map R Q [] (y ∷ ys) h r = absurd r
 pairs_map R Q (x ∷ xs) [] h r = absurd r
 pairs_map R Q (x ∷ xs) (y ∷ ys) h r = (h x y r.0, pairs_map R Q xs ys h r.1)
 
-pub total_grows : {A : Type 0} (R : A → A → Type 0) (f : A → ℕ) (xs ys : List A) → ((x y : A) → R x y → f x ≤ f y) → EachPair R xs ys → total f xs ≤ total f ys
+pub total_grows : {A : Type 0} (R : A → A → Type 0) (f : A → ℕ) (xs ys : List A) → ((x y : A) → R x y → f x ≤ f y) → EachPair R xs ys → sum_each f xs ≤ sum_each f ys
 total_grows R f [] [] h r = omega arith
 total_grows R f [] (y ∷ ys) h r = absurd r
 total_grows R f (x ∷ xs) [] h r = absurd r
 total_grows R f (x ∷ xs) (y ∷ ys) h r = let a = h x y r.0 in let b = total_grows R f xs ys h r.1 in omega arith
 
-total_same : {A : Type 0} (R : A → A → Type 0) (f : A → ℕ) (xs ys : List A) → ((x y : A) → R x y → f x ≡ f y) → EachPair R xs ys → total f xs ≡ total f ys
+total_same : {A : Type 0} (R : A → A → Type 0) (f : A → ℕ) (xs ys : List A) → ((x y : A) → R x y → f x ≡ f y) → EachPair R xs ys → sum_each f xs ≡ sum_each f ys
 total_same R f [] [] h r = refl
 total_same R f [] (y ∷ ys) h r = absurd r
 total_same R f (x ∷ xs) [] h r = absurd r
@@ -188,7 +188,7 @@ long_ended : (ins : List LaneInIs) → length (ended_entries ins) ≡ length ins
 long_ended [] = refl
 long_ended (a ∷ more) = ap suc (long_ended more)
 
-sent_gains : (f : LaneOutIs → List Item) (xs ys : List LaneOutIs) → EachPair (Gains f) xs ys → all_sent ys ≡ all_sent xs
+sent_gains : (f : LaneOutIs → List Item) (xs ys : List LaneOutIs) → EachPair (Gains f) xs ys → sent_in_all ys ≡ sent_in_all xs
 sent_gains f xs ys p = sym (total_same (Gains f) (λ (o : LaneOutIs). length o.sent) xs ys (λ a b g. sym (ap (λ (o : LaneOutIs). length o.sent) g)) p)
 
 whole_turn : (setup : SetupView) (due : Due) (w v : WorkerIs) → HasTurned setup due w v → v.journal ≡ w.journal ++ (marked_entries due.lanes due.request 0 w.ins ++ Turned due.request ∷ [])
@@ -245,14 +245,14 @@ turn_grew setup due w v d =
     let j : length v.journal ≡ length w.journal + length es = ap length (whole_turn setup due w v d) ∙ length-append w.journal es in
     let e : length es ≡ length (marked_entries due.lanes due.request 0 w.ins) + 1 = length-append (marked_entries due.lanes due.request 0 w.ins) (Turned due.request ∷ []) in
     let t : all_taken v.ins ≡ all_taken w.ins = ap all_taken d.ins ∙ taken_emptied due.lanes 0 w.ins in
-    let s : all_sent v.outs ≡ all_sent w.outs = sent_gains _ w.outs v.outs d.outs in
+    let s : sent_in_all v.outs ≡ sent_in_all w.outs = sent_gains _ w.outs v.outs d.outs in
     omega (arith, j, e, t, s)
 
 process_grew : (setup : SetupView) (who : WorkerOf) (place : ℕ) (w v : WorkerIs) → HasProcessed setup who place w v → moves w < moves v
 process_grew setup who place w v d =
     let j : length v.journal ≡ length w.journal + 1 = ap length d.journal ∙ length-append w.journal (Met d.at.number d.tuple ∷ []) in
     let t : all_taken v.ins ≡ all_taken w.ins = ap all_taken d.ins ∙ taken_laid place w.ins in
-    let s : all_sent v.outs ≡ all_sent w.outs = sent_gains _ w.outs v.outs d.outs in
+    let s : sent_in_all v.outs ≡ sent_in_all w.outs = sent_gains _ w.outs v.outs d.outs in
     omega (arith, j, t, s)
 
 close_grew : (w v : WorkerIs) → HasClosed w v → 0 < length w.ins → moves w < moves v
@@ -260,7 +260,7 @@ close_grew w v d l =
     let j : length v.journal ≡ length w.journal + length (ended_entries w.ins) = ap length d.journal ∙ length-append w.journal (ended_entries w.ins) in
     let e : length (ended_entries w.ins) ≡ length w.ins = long_ended w.ins in
     let t : all_taken v.ins ≡ all_taken w.ins = ap all_taken d.ins ∙ taken_ended w.ins in
-    let s : all_sent v.outs ≡ all_sent w.outs = sent_gains _ w.outs v.outs d.outs in
+    let s : sent_in_all v.outs ≡ sent_in_all w.outs = sent_gains _ w.outs v.outs d.outs in
     omega (arith, j, e, t, s, l)
 
 pub grew_done : (setup : SetupView) (who : WorkerOf) (due : Option Due) (act : Act) (w v : WorkerIs) → 0 < length w.ins → HasDone setup who due act w v → moves w < moves v

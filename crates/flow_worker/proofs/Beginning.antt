@@ -35,14 +35,14 @@ use Rattle.flow_model.proofs.FewLanes.{few_lanes, some_lane}
 use Rattle.flow_model.proofs.LaneLemmas.{sender_worker}
 use Rattle.flow_model.specs.declared.in_force.InForce.{InForce}
 use Rattle.flow_model.specs.declared.in_force.InForce.TheVariants.{Own}
-use Rattle.flow_worker.specs.Pairs.{Each}
+use Rattle.flow_worker.specs.Pairs.{EachOne}
 use Rattle.flow_model.specs.Dues.{AreDues, IsDueAfter, IsDueOf, edges_in}
 use Rattle.flow_model.specs.InForce.{func_in}
 use Rattle.flow_worker.specs.Endpoints.{LaneInIs, LaneOutIs, in_hand, planned}
 use Rattle.flow_worker.specs.Parts.{AreNewEndpoints, IsStateAt, endpoint_in, endpoint_out}
 use Rattle.lane_core.specs.Lane.{EndpointIs}
 use Rattle.flow_model.specs.NewEndpoint.{IsNewEndpoint}
-use Rattle.flow_worker.specs.Worker.{IsEndpointIn, IsEndpointOut, IsOnLane, IsPlaced, IsWorker, Sends, ShowsTaken, WorkerIs, view_now, numbers_in, numbers_out, progress_now}
+use Rattle.flow_worker.specs.Worker.{IsEndpointIn, IsEndpointOut, IsOnLane, IsPlaced, IsWorker, Sends, ShowsTaken, WorkerIs, view_now, lane_numbers_in, lane_numbers_out, progress_now}
 use Rattle.flow_worker.proofs.PlaceLemmas.{placed_edges}
 use Rattle.flow_worker.proofs.Pairs.{each_map, each_of, get_mapped, length_mapped}
 
@@ -59,8 +59,8 @@ pub record IsNewFrom (setup : SetupView) (begin : Begin) (who : WorkerOf) (w : W
   pub due : IsDueAfter setup w.node (edges_in setup.job w.number) begin.turned w.due
   pub turned : w.owner.turned ≡ 0
   pub closed : w.closed ≡ false
-  pub taken : Each (λ (a : LaneInIs). (a.taken ≡ []) × (a.hand ≡ Empty)) w.ins
-  pub sent : Each (λ (out : LaneOutIs). (out.sent ≡ []) × (out.waiting ≡ [])) w.outs
+  pub taken : EachOne (λ (a : LaneInIs). (a.taken ≡ []) × (a.hand ≡ Empty)) w.ins
+  pub sent : EachOne (λ (out : LaneOutIs). (out.sent ≡ []) × (out.waiting ≡ [])) w.outs
 
 -- the worker has its law then
 pub begins_from : (setup : SetupView) (begin : Begin) (who : WorkerOf) (w : WorkerIs) → IsPlaced setup who w → IsNewFrom setup begin who w → IsWorker setup begin w
@@ -74,9 +74,9 @@ begins_from setup begin who w placed n =
       func_is = n.func ∙ ap (λ (j : List Entry). Some (view_now setup begin who n.begun j).func) (sym n.journal);
       counts_is = n.counts ∙ ap (λ (j : List Entry). (view_now setup begin who n.begun j).counts) (sym n.journal);
       last_is = n.last ∙ ap (λ (j : List Entry). (view_now setup begin who n.begun j).last) (sym n.journal);
-      takes = subst (λ (j : List Entry). Each (ShowsTaken setup j) w.ins) (sym n.journal) (each_map (λ (a : LaneInIs). (a.taken ≡ []) × (a.hand ≡ Empty)) (ShowsTaken setup []) w.ins (λ a h. h.0 ∙ ap in_hand (sym h.1)) n.taken);
+      takes = subst (λ (j : List Entry). EachOne (ShowsTaken setup j) w.ins) (sym n.journal) (each_map (λ (a : LaneInIs). (a.taken ≡ []) × (a.hand ≡ Empty)) (ShowsTaken setup []) w.ins (λ a h. h.0 ∙ ap in_hand (sym h.1)) n.taken);
       steady_in = each_map (λ (a : LaneInIs). (a.taken ≡ []) × (a.hand ≡ Empty)) (λ (a : LaneInIs). IsSteady a.origin a.taken) w.ins (λ a h. subst (IsSteady a.origin) (sym h.0) (IsSteady-nil a.origin)) n.taken;
-      sends = subst (λ (j : List Entry). Each (Sends setup begin who n.begun j) w.outs) (sym n.journal)
+      sends = subst (λ (j : List Entry). EachOne (Sends setup begin who n.begun j) w.outs) (sym n.journal)
           (each_map (λ (out : LaneOutIs). (out.sent ≡ []) × (out.waiting ≡ [])) (Sends setup begin who n.begun []) w.outs (λ out h lane g. nothing out h.0 h.1) n.sent);
       steady_out = each_map (λ (out : LaneOutIs). (out.sent ≡ []) × (out.waiting ≡ [])) (λ (out : LaneOutIs). IsSteady out.origin (planned out)) w.outs (λ out h. subst (IsSteady out.origin) (sym (nothing out h.0 h.1)) (IsSteady-nil out.origin)) n.sent;
       turned_is = n.turned ∙ ap (λ (j : List Entry). length (turned j)) (sym n.journal);
@@ -133,7 +133,7 @@ first_state setup w counts there none =
 
 -- ---- where it stands
 
-ends_in : (setup : SetupView) (graph : Graph) (ins : List LaneInIs) → Each (λ (a : LaneInIs). IsOnLane setup.job a.number a.edge) ins → Each (IsNewEndpoint setup.job graph) (map endpoint_in ins) → Each (IsEndpointIn setup graph) ins
+ends_in : (setup : SetupView) (graph : Graph) (ins : List LaneInIs) → EachOne (λ (a : LaneInIs). IsOnLane setup.job a.number a.edge) ins → EachOne (IsNewEndpoint setup.job graph) (map endpoint_in ins) → EachOne (IsEndpointIn setup graph) ins
 ends_in setup graph [] o e = tt
 ends_in setup graph (a ∷ more) o e =
     let same : e.0.lane ≡ o.0.lane = same_Some e.0.lane o.0.lane (sym e.0.numbered ∙ o.0.numbered) in (
@@ -160,8 +160,8 @@ leads_from job w who n lane edge there i at g =
     let (by, works, number, node) = sender_worker job is.edge.from w (subst (λ (o : Option ℕ). IsIn o (senders job is.edge.from)) sender is.sends) in
     ap (λ (e : Edge). e.from) (sym its) ∙ (sym node ∙ ap (λ (x : WorkerOf). x.node) (same_Some by who (sym works ∙ there)))
 
-ends_out : (setup : SetupView) (graph : Graph) (w node : ℕ) (who : WorkerOf) (outs : List LaneOutIs) → slice_get (workers_in setup.job) w ≡ Some who → node ≡ who.node → ((n : ℕ) → IsIn n (numbers_out outs) → IsIn n (out_numbers setup.job w))
-    → Each (λ (out : LaneOutIs). IsOnLane setup.job out.number out.edge) outs → Each (IsNewEndpoint setup.job graph) (map endpoint_out outs) → Each (IsEndpointOut setup graph node) outs
+ends_out : (setup : SetupView) (graph : Graph) (w node : ℕ) (who : WorkerOf) (outs : List LaneOutIs) → slice_get (workers_in setup.job) w ≡ Some who → node ≡ who.node → ((n : ℕ) → IsIn n (lane_numbers_out outs) → IsIn n (out_numbers setup.job w))
+    → EachOne (λ (out : LaneOutIs). IsOnLane setup.job out.number out.edge) outs → EachOne (IsNewEndpoint setup.job graph) (map endpoint_out outs) → EachOne (IsEndpointOut setup graph node) outs
 ends_out setup graph w node who [] there n f o e = tt
 ends_out setup graph w node who (a ∷ more) there n f o e =
     let same : e.0.lane ≡ o.0.lane = same_Some e.0.lane o.0.lane (sym e.0.numbered ∙ o.0.numbered) in
@@ -180,8 +180,8 @@ pub record IsMade (job : JobView) (who : WorkerOf) (w : WorkerIs) : Type 0 where
   pub who_is : slice_get (workers_in job) w.number ≡ Some who
   pub node_is : w.node ≡ who.node
   pub place_is : w.place ≡ who.place
-  pub on_lanes : Each (λ (a : LaneInIs). IsOnLane job a.number a.edge) w.ins
-  pub outs_on_lanes : Each (λ (out : LaneOutIs). IsOnLane job out.number out.edge) w.outs
+  pub on_lanes : EachOne (λ (a : LaneInIs). IsOnLane job a.number a.edge) w.ins
+  pub outs_on_lanes : EachOne (λ (out : LaneOutIs). IsOnLane job out.number out.edge) w.outs
   pub next : w.next ≡ 0
   pub room_in : length w.ins ≤ w.spare_in
   pub room_out : length w.outs ≤ w.spare_out
@@ -189,8 +189,8 @@ pub record IsMade (job : JobView) (who : WorkerOf) (w : WorkerIs) : Type 0 where
 pub stands : (setup : SetupView) (who : WorkerOf) (w : WorkerIs) (ins outs : List EndpointIs) → IsLawful setup.job → IsMade setup.job who w → AreNewEndpoints setup.job w.number ins outs → map endpoint_in w.ins ≡ ins → map endpoint_out w.outs ≡ outs
     → IsPlaced setup who w
 stands setup who w ins outs law m e i o =
-    let numbers_i : numbers_in w.ins ≡ lanes_in setup.job w.number = sym (map-map (λ (end : EndpointIs). end.number) endpoint_in w.ins) ∙ (ap (map (λ (end : EndpointIs). end.number)) i ∙ e.ins_are) in
-    let numbers_o : numbers_out w.outs ≡ out_numbers setup.job w.number = sym (map-map (λ (end : EndpointIs). end.number) endpoint_out w.outs) ∙ (ap (map (λ (end : EndpointIs). end.number)) o ∙ e.outs_are) in
+    let numbers_i : lane_numbers_in w.ins ≡ lanes_in setup.job w.number = sym (map-map (λ (end : EndpointIs). end.number) endpoint_in w.ins) ∙ (ap (map (λ (end : EndpointIs). end.number)) i ∙ e.ins_are) in
+    let numbers_o : lane_numbers_out w.outs ≡ out_numbers setup.job w.number = sym (map-map (λ (end : EndpointIs). end.number) endpoint_out w.outs) ∙ (ap (map (λ (end : EndpointIs). end.number)) o ∙ e.outs_are) in
     let long : length w.ins ≡ length (lanes_in setup.job w.number) = sym (length_mapped (λ (a : LaneInIs). a.number) w.ins) ∙ ap length numbers_i in
     record {
       who_is = m.who_is;
@@ -199,27 +199,27 @@ stands setup who w ins outs law m e i o =
       graph = e.graph;
       graph_is = e.graph_is;
       ins_are = numbers_i;
-      ends_in = ends_in setup e.graph w.ins m.on_lanes (subst (Each (IsNewEndpoint setup.job e.graph)) (sym i) e.new_in);
+      ends_in = ends_in setup e.graph w.ins m.on_lanes (subst (EachOne (IsNewEndpoint setup.job e.graph)) (sym i) e.new_in);
       some_in = let a = some_lane setup.job w.number who law m.who_is in let b = m.next in omega (arith, long, a, b);
       few_in = let a = few_lanes setup.job w.number who law m.who_is in omega (arith, long, a);
       outs_are = numbers_o;
-      ends_out = ends_out setup e.graph w.number w.node who w.outs m.who_is m.node_is (λ n i. subst (IsIn n) numbers_o i) m.outs_on_lanes (subst (Each (IsNewEndpoint setup.job e.graph)) (sym o) e.new_out);
+      ends_out = ends_out setup e.graph w.number w.node who w.outs m.who_is m.node_is (λ n i. subst (IsIn n) numbers_o i) m.outs_on_lanes (subst (EachOne (IsNewEndpoint setup.job e.graph)) (sym o) e.new_out);
       room_in = m.room_in;
       room_out = m.room_out;
     }
 
 -- ---- parts of what is put together
 
-pub new_hands : (job : JobView) (graph : Graph) (ins : List LaneInIs) → Each (IsNewEndpoint job graph) (map endpoint_in ins) → Each (λ (a : LaneInIs). a.hand ≡ Empty) ins → Each (λ (a : LaneInIs). (a.taken ≡ []) × (a.hand ≡ Empty)) ins
+pub new_hands : (job : JobView) (graph : Graph) (ins : List LaneInIs) → EachOne (IsNewEndpoint job graph) (map endpoint_in ins) → EachOne (λ (a : LaneInIs). a.hand ≡ Empty) ins → EachOne (λ (a : LaneInIs). (a.taken ≡ []) × (a.hand ≡ Empty)) ins
 new_hands job graph [] e h = tt
 new_hands job graph (a ∷ more) e h = ((e.0.empty, h.0), new_hands job graph more e.1 h.1)
 
-pub new_waiting : (job : JobView) (graph : Graph) (outs : List LaneOutIs) → Each (IsNewEndpoint job graph) (map endpoint_out outs) → Each (λ (out : LaneOutIs). out.waiting ≡ []) outs → Each (λ (out : LaneOutIs). (out.sent ≡ []) × (out.waiting ≡ [])) outs
+pub new_waiting : (job : JobView) (graph : Graph) (outs : List LaneOutIs) → EachOne (IsNewEndpoint job graph) (map endpoint_out outs) → EachOne (λ (out : LaneOutIs). out.waiting ≡ []) outs → EachOne (λ (out : LaneOutIs). (out.sent ≡ []) × (out.waiting ≡ [])) outs
 new_waiting job graph [] e h = tt
 new_waiting job graph (a ∷ more) e h = ((e.0.empty, h.0), new_waiting job graph more e.1 h.1)
 
 -- the numbers of lanes that pass a test are those of lanes
-pub lanes_there : (test : Lane → Bool) (job : JobView) → Each (λ (n : ℕ). n < length (lanes job)) (lanes_that test job)
+pub lanes_there : (test : Lane → Bool) (job : JobView) → EachOne (λ (n : ℕ). n < length (lanes job)) (lanes_that test job)
 lanes_there test job = each_of (λ (n : ℕ). n < length (lanes job)) (lanes_that test job) (λ n i.
     let (lane, at, passes) = in_lanes_that test job n i in
     slice_get_within (lanes job) n lane at)

@@ -13,17 +13,17 @@ use Rattle.flow_model.specs.Law.{IsExecution, Progress, Duties, initial, progres
 use Rattle.flow_model.specs.declared.topology.Lane.{Lane}
 use Rattle.flow_model.specs.SetupView.{SetupView, Worker as WorkerOf}
 use Rattle.flow_model.specs.Points.{turned}
-use Rattle.flow_model.specs.Replay.{StateView, after_all, items_on, put_on_each, sent, shown}
+use Rattle.flow_model.specs.Replay.{StateView, after_all, items_on, put_on_each, items_sent, shown}
 use Rattle.flow_model.specs.Run.{IsFinishedFrom, IsLawfulFrom}
 use Rattle.flow_model.specs.Duties.{duties}
 use Rattle.flow_model.proofs.ElementLemmas.{AreDistinct, IsIn, all_of_at, contains_of_in, in_of_contains, map_in}
 use Rattle.flow_model.proofs.EndLemmas.{ended_counts}
 use Rattle.flow_model.proofs.JournalLemmas.{IsExecution-append, after_all-append, progress_after-append, sent-append, shown-append}
-use Rattle.flow_worker.specs.Pairs.{Each}
+use Rattle.flow_worker.specs.Pairs.{EachOne}
 use Rattle.flow_worker.specs.Endpoints.{Gains, LaneInIs, IsSteadyIn, LaneOutIs, in_hand, planned}
 use Rattle.flow_model.specs.Dues.{AreDues}
 use Rattle.flow_model.proofs.OutLanes.{one_on, out_distinct}
-use Rattle.flow_worker.specs.Worker.{IsEndpointIn, IsEndpointOut, IsPlaced, IsWorker, Sends, ShowsTaken, WorkerIs, edges_of, view_now, numbers_in, progress_now}
+use Rattle.flow_worker.specs.Worker.{IsEndpointIn, IsEndpointOut, IsPlaced, IsWorker, Sends, ShowsTaken, WorkerIs, edges_of, view_now, lane_numbers_in, progress_now}
 use Rattle.flow_worker.specs.Steps.{HasClosed, all_emptied, ended_entries}
 use Rattle.flow_worker.proofs.Pairs.{each_both, each_of, length_mapped, pairs_each, pairs_keep, pairs_length}
 use Rattle.flow_worker.proofs.Marking.{self_test, turned-append}
@@ -33,13 +33,13 @@ use Rattle.flow_worker.proofs.TurnLaw.{end_emptied, end_gains}
 
 -- ---- the ends and the law
 
-ends_follow : (st : Duties) (p : Progress) (ins : List LaneInIs) → p.dues ≡ [] → p.marked ≡ [] → Each (λ (a : LaneInIs). IsIn a.number st.lanes) ins → AreDistinct (numbers_in ins)
-    → ((n : ℕ) → IsIn n p.ended → ¬ IsIn n (numbers_in ins)) → IsExecution st p (ended_entries ins)
+ends_follow : (st : Duties) (p : Progress) (ins : List LaneInIs) → p.dues ≡ [] → p.marked ≡ [] → EachOne (λ (a : LaneInIs). IsIn a.number st.lanes) ins → AreDistinct (lane_numbers_in ins)
+    → ((n : ℕ) → IsIn n p.ended → ¬ IsIn n (lane_numbers_in ins)) → IsExecution st p (ended_entries ins)
 ends_follow st p [] u m e d f = tt
 ends_follow st p (a ∷ more) u m e d f = (
   (contains_of_in a.number st.lanes e.0, (λ k. f a.number (in_of_contains a.number p.ended k) (inl refl)), u, m),
   ends_follow st (record p { ended = a.number ∷ p.ended }) more u m e.1 d.1
-      (λ k j l. elim j [ inl q ↦ d.0 (subst (λ x. IsIn x (numbers_in more)) q l) | inr q ↦ f k q (inr l) ]),
+      (λ k j l. elim j [ inl q ↦ d.0 (subst (λ x. IsIn x (lane_numbers_in more)) q l) | inr q ↦ f k q (inr l) ]),
 )
 
 abbrev ended_onto : List LaneInIs → List ℕ → List ℕ
@@ -54,7 +54,7 @@ stays_onto : (n : ℕ) (ins : List LaneInIs) (m : List ℕ) → IsIn n m → IsI
 stays_onto n [] m h = h
 stays_onto n (a ∷ more) m h = stays_onto n more (a.number ∷ m) (inr h)
 
-comes_onto : (n : ℕ) (ins : List LaneInIs) (m : List ℕ) → IsIn n (numbers_in ins) → IsIn n (ended_onto ins m)
+comes_onto : (n : ℕ) (ins : List LaneInIs) (m : List ℕ) → IsIn n (lane_numbers_in ins) → IsIn n (ended_onto ins m)
 comes_onto n [] m h = absurd h
 comes_onto n (a ∷ more) m (inl e) = stays_onto n more (a.number ∷ m) (inl e)
 comes_onto n (a ∷ more) m (inr h) = comes_onto n more (a.number ∷ m) h
@@ -67,7 +67,7 @@ view_ends setup who view (a ∷ more) = view_ends setup who (record view { ended
 
 -- the last of the ends puts an end on each lane out, the others put nothing
 sent_ends : (setup : SetupView) (who : WorkerOf) (lane : Lane) (view : StateView) (ins : List LaneInIs) → IsIn lane (lanes_out setup.job who.number) → 0 < length ins
-    → view.ended + length ins ≡ length (lanes_in setup.job who.number) → sent setup who view lane (ended_entries ins) ≡ Last ∷ []
+    → view.ended + length ins ≡ length (lanes_in setup.job who.number) → items_sent setup who view lane (ended_entries ins) ≡ Last ∷ []
 sent_ends setup who lane view [] i l e = absurd (omega arith)
 sent_ends setup who lane view (a ∷ []) i l e =
     let t : (view.ended + 1 == length (lanes_in setup.job who.number)) ≡ true = eq-eqb (view.ended + 1) (length (lanes_in setup.job who.number)) (omega arith) in
@@ -78,7 +78,7 @@ sent_ends setup who lane view (a ∷ b ∷ more) i l e =
 
 -- ---- what the ends show
 
-shown_no_end : (setup : SetupView) (n : ℕ) (ins : List LaneInIs) → ¬ IsIn n (numbers_in ins) → shown setup n (ended_entries ins) ≡ []
+shown_no_end : (setup : SetupView) (n : ℕ) (ins : List LaneInIs) → ¬ IsIn n (lane_numbers_in ins) → shown setup n (ended_entries ins) ≡ []
 shown_no_end setup n [] f = refl
 shown_no_end setup n (a ∷ more) f = go (a.number == n) refl (shown_no_end setup n more (λ h. f (inr h)))
   where
@@ -86,18 +86,18 @@ shown_no_end setup n (a ∷ more) f = go (a.number == n) refl (shown_no_end setu
     go true e h = absurd (f (inl (sym (eqb-true a.number n e))))
     go false e h = h
 
-shown_end : (setup : SetupView) (n : ℕ) (ins : List LaneInIs) → AreDistinct (numbers_in ins) → IsIn n (numbers_in ins) → shown setup n (ended_entries ins) ≡ Last ∷ []
+shown_end : (setup : SetupView) (n : ℕ) (ins : List LaneInIs) → AreDistinct (lane_numbers_in ins) → IsIn n (lane_numbers_in ins) → shown setup n (ended_entries ins) ≡ Last ∷ []
 shown_end setup n [] d i = absurd i
 shown_end setup n (a ∷ more) d (inl e) =
     subst (λ x. shown setup x (ended_entries (a ∷ more)) ≡ Last ∷ []) (sym e) (rw (self_test a.number) (ap (λ xs. Last ∷ xs) (shown_no_end setup a.number more d.0)))
 shown_end setup n (a ∷ more) d (inr i) = go (a.number == n) refl (shown_end setup n more d.1 i)
   where
     go : (b : Bool) → (a.number == n) ≡ b → shown setup n (ended_entries more) ≡ Last ∷ [] → cond b (Last ∷ []) [] ++ shown setup n (ended_entries more) ≡ Last ∷ []
-    go true e h = absurd (d.0 (subst (λ x. IsIn x (numbers_in more)) (sym (eqb-true a.number n e)) i))
+    go true e h = absurd (d.0 (subst (λ x. IsIn x (lane_numbers_in more)) (sym (eqb-true a.number n e)) i))
     go false e h = h
 
-takes_ended : (setup : SetupView) (journal later : List Entry) (ins : List LaneInIs) → Each (λ (a : LaneInIs). shown setup a.number later ≡ shown setup a.number journal ++ Last ∷ []) ins
-    → Each (λ (a : LaneInIs). a.hand ≡ Holds Last) ins → Each (ShowsTaken setup journal) ins → Each (ShowsTaken setup later) (all_emptied ins)
+takes_ended : (setup : SetupView) (journal later : List Entry) (ins : List LaneInIs) → EachOne (λ (a : LaneInIs). shown setup a.number later ≡ shown setup a.number journal ++ Last ∷ []) ins
+    → EachOne (λ (a : LaneInIs). a.hand ≡ Holds Last) ins → EachOne (ShowsTaken setup journal) ins → EachOne (ShowsTaken setup later) (all_emptied ins)
 takes_ended setup journal later [] f l e = tt
 takes_ended setup journal later (a ∷ more) f l e =
     (e.0 ∙ (ap (λ x. shown setup a.number journal ++ in_hand x) l.0 ∙ (sym f.0 ∙ sym (append-nil (shown setup a.number later)))), takes_ended setup journal later more f.1 l.1 e.1)
@@ -106,11 +106,11 @@ mapped_ended : {B : Type 0} (f : LaneInIs → B) (ins : List LaneInIs) → ((a :
 mapped_ended f [] same = refl
 mapped_ended f (a ∷ more) same = let e = same a in let r = mapped_ended f more same in cc
 
-each_ended : (P : LaneInIs → Type 0) (ins : List LaneInIs) → ((a : LaneInIs) → P a → P (record a { hand = Empty })) → Each P ins → Each P (all_emptied ins)
+each_ended : (P : LaneInIs → Type 0) (ins : List LaneInIs) → ((a : LaneInIs) → P a → P (record a { hand = Empty })) → EachOne P ins → EachOne P (all_emptied ins)
 each_ended P [] f e = tt
 each_ended P (a ∷ more) f e = (f a e.0, each_ended P more f e.1)
 
-all_empty : (ins : List LaneInIs) → Each (λ (a : LaneInIs). a.hand ≡ Empty) (all_emptied ins)
+all_empty : (ins : List LaneInIs) → EachOne (λ (a : LaneInIs). a.hand ≡ Empty) (all_emptied ins)
 all_empty [] = tt
 all_empty (a ∷ more) = (refl, all_empty more)
 
@@ -121,7 +121,7 @@ turned_ended (a ∷ more) = turned_ended more
 -- ---- the law
 
 module _ (setup : SetupView) (begin : Begin) (keeps : KeepsSteady setup) (w v : WorkerIs) (h : IsWorker setup begin w) (open_ : w.closed ≡ false) (no_due : w.due ≡ None)
-    (lasts : Each (λ (a : LaneInIs). a.hand ≡ Holds Last) w.ins) (t : HasClosed w v)
+    (lasts : EachOne (λ (a : LaneInIs). a.hand ≡ Holds Last) w.ins) (t : HasClosed w v)
   where
     abbrev st : Duties
     st = duties setup begin.turned h.who
@@ -147,15 +147,15 @@ module _ (setup : SetupView) (begin : Begin) (keeps : KeepsSteady setup) (w v : 
     number : h.who.number ≡ w.number
     number = number_is setup h.who w h.placed
 
-    distinct : AreDistinct (numbers_in w.ins)
+    distinct : AreDistinct (lane_numbers_in w.ins)
     distinct = ins_distinct setup h.who w h.placed
 
-    lanes_are : numbers_in w.ins ≡ st.lanes
+    lanes_are : lane_numbers_in w.ins ≡ st.lanes
     lanes_are = h.placed.ins_are ∙ ap (lanes_in setup.job) (sym number)
 
     follows : IsExecution st progress new
     follows = ends_follow st progress w.ins (subst (AreDues setup w.node progress.dues) no_due h.dues_are) h.lawful.no_open_turn
-        (subst (λ (ns : List ℕ). Each (λ (a : LaneInIs). IsIn a.number ns) w.ins) lanes_are (each_of (λ (a : LaneInIs). IsIn a.number (numbers_in w.ins)) w.ins (λ a i. map_in (λ (a : LaneInIs). a.number) a w.ins i)))
+        (subst (λ (ns : List ℕ). EachOne (λ (a : LaneInIs). IsIn a.number ns) w.ins) lanes_are (each_of (λ (a : LaneInIs). IsIn a.number (lane_numbers_in w.ins)) w.ins (λ a i. map_in (λ (a : LaneInIs). a.number) a w.ins i)))
         distinct (λ k i. absurd (subst (IsIn k) (h.unended open_) i))
 
     stands : progress_now setup begin h.who longer ≡ record progress { ended = ended_onto w.ins progress.ended }
@@ -183,10 +183,10 @@ module _ (setup : SetupView) (begin : Begin) (keeps : KeepsSteady setup) (w v : 
         let z : length progress.ended ≡ 0 = ap length (h.unended open_) in
         omega arith
 
-    longer_sent : (lane : Lane) → IsIn lane (lanes_out setup.job h.who.number) → sent setup h.who first lane longer ≡ sent setup h.who first lane w.journal ++ Last ∷ []
+    longer_sent : (lane : Lane) → IsIn lane (lanes_out setup.job h.who.number) → items_sent setup h.who first lane longer ≡ items_sent setup h.who first lane w.journal ++ Last ∷ []
     longer_sent lane i =
         sent-append setup h.who first lane w.journal new
-        ∙ ap (λ xs. sent setup h.who first lane w.journal ++ xs)
+        ∙ ap (λ xs. items_sent setup h.who first lane w.journal ++ xs)
         (sent_ends setup h.who lane view w.ins i (let s = h.placed.some_in in omega arith)
         (let long : length w.ins ≡ length st.lanes = sym (length_mapped (λ (a : LaneInIs). a.number) w.ins) ∙ ap length lanes_are in omega (arith, none_ended, long)))
 
@@ -197,22 +197,22 @@ module _ (setup : SetupView) (begin : Begin) (keeps : KeepsSteady setup) (w v : 
         ∙ (sym (append_assoc a.sent a.waiting (Last ∷ []))
         ∙ (ap (λ xs. xs ++ Last ∷ []) (q.0 lane here) ∙ sym (longer_sent lane (out_sends setup h.who w h.placed a q.1 lane here))))
 
-    shows : Each (λ (a : LaneInIs). shown setup a.number longer ≡ shown setup a.number w.journal ++ Last ∷ []) w.ins
+    shows : EachOne (λ (a : LaneInIs). shown setup a.number longer ≡ shown setup a.number w.journal ++ Last ∷ []) w.ins
     shows = each_of (λ (a : LaneInIs). shown setup a.number longer ≡ shown setup a.number w.journal ++ Last ∷ []) w.ins
         (λ a i. shown-append setup a.number w.journal new ∙ ap (λ xs. shown setup a.number w.journal ++ xs) (shown_end setup a.number w.ins distinct (map_in (λ (a : LaneInIs). a.number) a w.ins i)))
 
     pub keeps_close : IsWorker setup begin v
     keeps_close =
         let k = h.placed in
-        let numbers : numbers_in v.ins ≡ numbers_in w.ins = rw t.ins (mapped_ended (λ (a : LaneInIs). a.number) w.ins (λ a. refl)) in
+        let numbers : lane_numbers_in v.ins ≡ lane_numbers_in w.ins = rw t.ins (mapped_ended (λ (a : LaneInIs). a.number) w.ins (λ a. refl)) in
         let edges : edges_of v.ins ≡ edges_of w.ins = rw t.ins (mapped_ended (λ (a : LaneInIs). a.edge) w.ins (λ a. refl)) in
-        let ends : Each (IsEndpointIn setup k.graph) v.ins = rw t.ins (each_ended (IsEndpointIn setup k.graph) w.ins (end_emptied setup k.graph) k.ends_in) in
-        let takes : Each (ShowsTaken setup v.journal) v.ins = rw (t.journal, t.ins) (takes_ended setup w.journal longer w.ins shows lasts h.takes) in
-        let steady : Each IsSteadyIn v.ins = rw t.ins (each_ended IsSteadyIn w.ins (λ a q. q) h.steady_in) in
+        let ends : EachOne (IsEndpointIn setup k.graph) v.ins = rw t.ins (each_ended (IsEndpointIn setup k.graph) w.ins (end_emptied setup k.graph) k.ends_in) in
+        let takes : EachOne (ShowsTaken setup v.journal) v.ins = rw (t.journal, t.ins) (takes_ended setup w.journal longer w.ins shows lasts h.takes) in
+        let steady : EachOne IsSteadyIn v.ins = rw t.ins (each_ended IsSteadyIn w.ins (λ a q. q) h.steady_in) in
         let lawful : IsLawfulFrom setup begin h.who v.journal = rw t.journal longer_lawful in
         let long : length v.ins ≡ length w.ins = rw t.ins (length_mapped (λ (a : LaneInIs). record a { hand = Empty }) w.ins) in
         let outs_long : length v.outs ≡ length w.outs = pairs_length (Gains ends_only) w.outs v.outs t.outs in
-        let sends : Each (Sends setup begin h.who h.begun v.journal) v.outs = rw t.journal
+        let sends : EachOne (Sends setup begin h.who h.begun v.journal) v.outs = rw t.journal
         (pairs_each (Gains ends_only) (λ o. Sends setup begin h.who h.begun w.journal o × IsIn o w.outs) (Sends setup begin h.who h.begun longer) w.outs v.outs sends_end t.outs
         (each_both (Sends setup begin h.who h.begun w.journal) (λ o. IsIn o w.outs) w.outs h.sends (each_of (λ o. IsIn o w.outs) w.outs (λ o i. i)))) in
         let placed : IsPlaced setup h.who v = subst (IsPlaced setup h.who) (sym t.rest) (record {

@@ -16,7 +16,7 @@ use Rattle.marker_align.specs.declared.held.Hand.{Hand}
 use Rattle.marker_align.specs.declared.held.Hand.TheVariants.{Empty, Holds}
 use Rattle.tuple_trace.specs.declared.tuple.Item.TheVariants.{Carry, Mark, Last}
 use Rattle.flow_worker.specs.Endpoints.{LaneInIs}
-use Rattle.flow_worker.specs.Pairs.{Each}
+use Rattle.flow_worker.specs.Pairs.{EachOne}
 use Rattle.flow_worker.specs.Steps.{HasTuple}
 use Rattle.flow_worker.proofs.Marking.{HoldMarker}
 
@@ -169,6 +169,6 @@ last_is (Holds (Carry t)) e = absurd (cc)
 last_is (Holds (Mark q d)) e = absurd (cc)
 last_is (Holds Last) e = refl
 
-pub all_last : (ins : List LaneInIs) → list_all is_last (all_hands ins) ≡ true → Each (λ (a : LaneInIs). a.hand ≡ Holds Last) ins
+pub all_last : (ins : List LaneInIs) → list_all is_last (all_hands ins) ≡ true → EachOne (λ (a : LaneInIs). a.hand ≡ Holds Last) ins
 all_last [] e = tt
 all_last (a ∷ more) e = let p = and_parts (is_last a.hand) (list_all is_last (all_hands more)) e in (last_is a.hand p.0, all_last more p.1)

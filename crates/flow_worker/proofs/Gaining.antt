@@ -1,7 +1,7 @@
 -- Memory first, then the items.
 use Rattle.std.proofs.Common.{◌≡◌, ℕ, ◌+◌, ◌≤◌, List, [], ◌∷◌, ◌++◌, length, refl, sym, ap, subst, ◌∙◌}
 use Rattle.tuple_trace.specs.declared.tuple.Item.{Item}
-use Rattle.flow_worker.specs.Pairs.{Each, EachPair}
+use Rattle.flow_worker.specs.Pairs.{EachOne, EachPair}
 use Rattle.flow_worker.specs.Endpoints.{Appended, Gains, LaneOutIs, Reserved}
 use Rattle.flow_worker.proofs.Pairs.{pairs_then, pairs_each, each_true}
 
@@ -17,7 +17,7 @@ gains f more xs ys zs same r q = pairs_then (Reserved more) (Appended f) (Gains 
     one : (a b c : LaneOutIs) → Reserved more a b → Appended f b c → Gains f a c
     one a b c r q = go a b.memory c (q ∙ ap (λ (o : LaneOutIs). record o { waiting = o.waiting ++ f o }) r.0)
 
-pub room : (more : ℕ) (xs ys : List LaneOutIs) → EachPair (Reserved more) xs ys → Each (λ (o : LaneOutIs). length o.waiting + more ≤ o.memory) ys
+pub room : (more : ℕ) (xs ys : List LaneOutIs) → EachPair (Reserved more) xs ys → EachOne (λ (o : LaneOutIs). length o.waiting + more ≤ o.memory) ys
 room more xs ys r = pairs_each (Reserved more) (λ o. ◌≡◌ {A = ℕ} 0 0) (λ o. length o.waiting + more ≤ o.memory) xs ys (λ x y r h. r.1) r (each_true (λ o. ◌≡◌ {A = ℕ} 0 0) xs (λ x. refl))
 
 -- the same items by another name

@@ -14,8 +14,8 @@ use Rattle.marker_align.specs.declared.held.Hand.{Hand}
 use Rattle.marker_align.specs.declared.held.Hand.TheVariants.{Empty, Holds}
 use Rattle.tuple_trace.specs.declared.tuple.Item.TheVariants.{Carry, Mark, Last}
 use Rattle.flow_worker.specs.Endpoints.{LaneInIs}
-use Rattle.flow_worker.specs.Masks.{AreMasks, IsFedBy, IsFirstFrom, IsMaskOf, has_empty, has_tuple, is_empty, passes}
-use Rattle.flow_worker.specs.Pairs.{Each}
+use Rattle.flow_worker.specs.Masks.{AreMasks, IsFedBy, IsFirstFrom, IsMaskOf, has_empty, has_tuple, is_empty_hand, passes}
+use Rattle.flow_worker.specs.Pairs.{EachOne}
 use Rattle.flow_worker.proofs.Deciding.{all_hands, all_last, hold_marker}
 use Rattle.flow_worker.proofs.HandMasks.{passes_within}
 use Rattle.flow_worker.proofs.Marking.{HoldMarker}
@@ -121,7 +121,7 @@ module _ (tuples : ℕ) (ins : List LaneInIs) (is : IsMaskOf has_tuple tuples in
 
 -- ---- a due that may not turn
 
-no_issued : (newest r : ℕ) (ins : List LaneInIs) → newest < r → Each (IsFedBy newest) ins → list_any (is_issued r) (all_hands ins) ≡ false
+no_issued : (newest r : ℕ) (ins : List LaneInIs) → newest < r → EachOne (IsFedBy newest) ins → list_any (is_issued r) (all_hands ins) ≡ false
 no_issued newest r [] l e = refl
 no_issued newest r (a ∷ more) l e = rw (go a.hand refl, no_issued newest r more l e.1) refl
   where
@@ -131,21 +131,21 @@ no_issued newest r (a ∷ more) l e = rw (go a.hand refl, no_issued newest r mor
     go (Holds (Mark s c)) q = refl
     go (Holds Last) q = refl
 
-pub head_waits : (due : Due) (newest : ℕ) (ins : List LaneInIs) (posted : Bool) → due.head ≡ true → posted ≡ false → newest < due.request → Each (IsFedBy newest) ins → turn (all_hands ins) (Some due) posted ≡ None
+pub head_waits : (due : Due) (newest : ℕ) (ins : List LaneInIs) (posted : Bool) → due.head ≡ true → posted ≡ false → newest < due.request → EachOne (IsFedBy newest) ins → turn (all_hands ins) (Some due) posted ≡ None
 head_waits due newest ins posted head unposted l e = rw (head, unposted, no_issued newest due.request ins l e) refl
 
 -- a hand that is empty or has a tuple
 abbrev pub IsOpen : List LaneInIs → ℕ → Type 0
 IsOpen ins k = (passes has_empty ins k ≡ true) ⊎ (passes has_tuple ins k ≡ true)
 
-no_marker : (hand : Hand) (r c : ℕ) → hand ≡ Holds (Mark r c) → (is_empty hand ≡ true) ⊎ (is_tuple hand ≡ true) → ⊥
+no_marker : (hand : Hand) (r c : ℕ) → hand ≡ Holds (Mark r c) → (is_empty_hand hand ≡ true) ⊎ (is_tuple hand ≡ true) → ⊥
 no_marker Empty r c e o = absurd (cc)
 no_marker (Holds (Carry t)) r c e o = absurd (cc)
 no_marker (Holds (Mark s d)) r c e (inl o) = absurd (cc)
 no_marker (Holds (Mark s d)) r c e (inr o) = absurd (cc)
 no_marker (Holds Last) r c e o = absurd (cc)
 
-no_last : (hand : Hand) → hand ≡ Holds Last → (is_empty hand ≡ true) ⊎ (is_tuple hand ≡ true) → ⊥
+no_last : (hand : Hand) → hand ≡ Holds Last → (is_empty_hand hand ≡ true) ⊎ (is_tuple hand ≡ true) → ⊥
 no_last Empty e o = absurd (cc)
 no_last (Holds (Carry t)) e o = absurd (cc)
 no_last (Holds (Mark s d)) e o = absurd (cc)
@@ -161,7 +161,7 @@ open_unmarked mask r c i [] k h b o = no_open k o
 open_unmarked mask r c i (a ∷ more) zero h b o = no_marker a.hand r c (h.0 (ap (has mask) (let q : i ≡ i + 0 = omega arith in q) ∙ b)) o
 open_unmarked mask r c i (a ∷ more) (suc k) h b o = open_unmarked mask r c (i + 1) more k h.1 (ap (has mask) (let q : i + 1 + k ≡ i + suc k = omega arith in q) ∙ b) o
 
-open_unended : (ins : List LaneInIs) (k : ℕ) → Each (λ (a : LaneInIs). a.hand ≡ Holds Last) ins → IsOpen ins k → ⊥
+open_unended : (ins : List LaneInIs) (k : ℕ) → EachOne (λ (a : LaneInIs). a.hand ≡ Holds Last) ins → IsOpen ins k → ⊥
 open_unended [] k h o = no_open k o
 open_unended (a ∷ more) zero h o = no_last a.hand h.0 o
 open_unended (a ∷ more) (suc k) h o = open_unended more k h.1 o

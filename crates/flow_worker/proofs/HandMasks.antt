@@ -4,7 +4,7 @@ use Rattle.std.proofs.lemmas.Bool.Decides.{eqb_tells, nat_tests}
 use Rattle.std.proofs.lemmas.List.{length-set}
 use Rattle.flow_dag.specs.Masks.{has}
 use Rattle.flow_worker.specs.Masks.{IsMaskOf, IsMaskWith, IsTakenFrom, passes}
-use Rattle.flow_worker.specs.Pairs.{Each, EachPair}
+use Rattle.flow_worker.specs.Pairs.{EachOne, EachPair}
 
 -- ---- places that pass
 
@@ -41,7 +41,7 @@ mask_kept p xs n mask d z l e is k = is k ∙ sym (passes_set p xs n k z l ∙ g
     go (inl s) = rw s.0 (e ∙ sym (subst (λ j. passes p xs j ≡ p (get_or xs n d)) (sym s.1) (passes_get p xs n d l)))
     go (inr s) = rw s.0 refl
 
-pub each_set : {A : Type 0} (P : A → Type 0) (xs : List A) (n : ℕ) (z : A) → Each P xs → P z → Each P (set xs n z)
+pub each_set : {A : Type 0} (P : A → Type 0) (xs : List A) (n : ℕ) (z : A) → EachOne P xs → P z → EachOne P (set xs n z)
 each_set P [] n z e h = tt
 each_set P (x ∷ xs) zero z e h = (h, e.1)
 each_set P (x ∷ xs) (suc n) z e h = (e.0, each_set P xs n z e.1 h)

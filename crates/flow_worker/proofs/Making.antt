@@ -4,7 +4,7 @@ use Rattle.std.proofs.lemmas.List.{map-append}
 use Rattle.jobs.specs.JobView.{JobView}
 use Rattle.flow_model.specs.Lanes.{lanes}
 use Rattle.flow_model.specs.declared.topology.Lane.{Lane}
-use Rattle.flow_worker.specs.Pairs.{Each}
+use Rattle.flow_worker.specs.Pairs.{EachOne}
 
 -- one item goes from the one list to the other
 pub moved_over : {A B E : Type 0} (f : A → E) (g : B → E) (xs new : List A) (a : A) (its rest : List B) (b : B) (all : List E) → new ≡ xs ++ a ∷ [] → its ≡ b ∷ rest → f a ≡ g b →
@@ -27,10 +27,10 @@ drop-rest [] (suc n) x rest e = absurd (cc)
 drop-rest (y ∷ ys) zero x rest e = cc
 drop-rest (y ∷ ys) (suc n) x rest e = drop-rest ys n x rest e
 
-pub each_more : {A : Type 0} (P : A → Type 0) (xs new : List A) (x : A) → new ≡ xs ++ x ∷ [] → Each P xs → P x → Each P new
-each_more {A = A} P xs new x same e p = subst (Each P) (sym same) (go xs e)
+pub each_more : {A : Type 0} (P : A → Type 0) (xs new : List A) (x : A) → new ≡ xs ++ x ∷ [] → EachOne P xs → P x → EachOne P new
+each_more {A = A} P xs new x same e p = subst (EachOne P) (sym same) (go xs e)
   where
-    go : (ys : List A) → Each P ys → Each P (ys ++ x ∷ [])
+    go : (ys : List A) → EachOne P ys → EachOne P (ys ++ x ∷ [])
     go [] h = (p, tt)
     go (y ∷ ys) h = (h.0, go ys h.1)
 

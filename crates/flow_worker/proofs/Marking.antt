@@ -11,11 +11,11 @@ use Rattle.flow_model.specs.Law.{IsExecution, Progress, Duties, next_due, progre
 use Rattle.flow_model.specs.declared.topology.Lane.{Lane}
 use Rattle.flow_model.specs.SetupView.{SetupView, Worker as WorkerOf}
 use Rattle.flow_model.specs.Points.{turn_in, turned}
-use Rattle.flow_model.specs.Replay.{StateView, after_all, marker, sent, shown}
+use Rattle.flow_model.specs.Replay.{StateView, after_all, marker, items_sent, shown}
 use Rattle.flow_model.proofs.ElementLemmas.{AreDistinct, IsIn, contains_of_in, in_of_contains}
-use Rattle.flow_worker.specs.Pairs.{Each}
+use Rattle.flow_worker.specs.Pairs.{EachOne}
 use Rattle.flow_worker.specs.Endpoints.{LaneInIs, in_hand}
-use Rattle.flow_worker.specs.Worker.{ShowsTaken, numbers_in}
+use Rattle.flow_worker.specs.Worker.{ShowsTaken, lane_numbers_in}
 use Rattle.flow_worker.specs.Steps.{emptied, marked_entries}
 
 -- ---- what the markers are to the law
@@ -25,13 +25,13 @@ abbrev pub AreMarked : Duties → ℕ → ℕ → ℕ → List LaneInIs → Type
 AreMarked duties r mask i [] = Unit {0}
 AreMarked duties r mask i (a ∷ more) = (has mask i ≡ true → IsIn a.number (duties.marked_lanes r)) × AreMarked duties r mask (i + 1) more
 
-pub marks_follow : (duties : Duties) (r mask i : ℕ) (p : Progress) (ins : List LaneInIs) → next_due p.dues ≡ Some r → p.ended ≡ [] → AreDistinct (numbers_in ins)
-    → ((n : ℕ) → IsIn n p.marked → ¬ IsIn n (numbers_in ins)) → AreMarked duties r mask i ins → IsExecution duties p (marked_entries mask r i ins)
+pub marks_follow : (duties : Duties) (r mask i : ℕ) (p : Progress) (ins : List LaneInIs) → next_due p.dues ≡ Some r → p.ended ≡ [] → AreDistinct (lane_numbers_in ins)
+    → ((n : ℕ) → IsIn n p.marked → ¬ IsIn n (lane_numbers_in ins)) → AreMarked duties r mask i ins → IsExecution duties p (marked_entries mask r i ins)
 marks_follow duties r mask i p [] n e d f m = tt
 marks_follow duties r mask i p (a ∷ more) n e d f m =
     go (has mask i) refl
     (marks_follow duties r mask (i + 1) (record p { marked = a.number ∷ p.marked }) more n e d.1
-    (λ k j l. elim j [ inl q ↦ d.0 (subst (λ x. IsIn x (numbers_in more)) q l) | inr q ↦ f k q (inr l) ]) m.1)
+    (λ k j l. elim j [ inl q ↦ d.0 (subst (λ x. IsIn x (lane_numbers_in more)) q l) | inr q ↦ f k q (inr l) ]) m.1)
     (marks_follow duties r mask (i + 1) p more n e d.1 (λ k j l. f k j (inr l)) m.1)
   where
     go : (b : Bool) → has mask i ≡ b → IsExecution duties (record p { marked = a.number ∷ p.marked }) (marked_entries mask r (i + 1) more)
@@ -79,11 +79,11 @@ view_marks setup who mask r i view (a ∷ more) = go (has mask i) (view_marks se
     go true h = h
     go false h = h
 
-pub sent_marks : (setup : SetupView) (who : WorkerOf) (mask r i : ℕ) (lane : Lane) (view : StateView) (ins : List LaneInIs) → sent setup who view lane (marked_entries mask r i ins) ≡ []
+pub sent_marks : (setup : SetupView) (who : WorkerOf) (mask r i : ℕ) (lane : Lane) (view : StateView) (ins : List LaneInIs) → items_sent setup who view lane (marked_entries mask r i ins) ≡ []
 sent_marks setup who mask r i lane view [] = refl
 sent_marks setup who mask r i lane view (a ∷ more) = go (has mask i) (sent_marks setup who mask r (i + 1) lane view more)
   where
-    go : (b : Bool) → sent setup who view lane (marked_entries mask r (i + 1) more) ≡ [] → sent setup who view lane (cond b (Marked a.number r ∷ []) [] ++ marked_entries mask r (i + 1) more) ≡ []
+    go : (b : Bool) → items_sent setup who view lane (marked_entries mask r (i + 1) more) ≡ [] → items_sent setup who view lane (cond b (Marked a.number r ∷ []) [] ++ marked_entries mask r (i + 1) more) ≡ []
     go true h = h
     go false h = h
 
@@ -100,7 +100,7 @@ turned_marks mask r i (a ∷ more) = go (has mask i) (turned_marks mask r (i + 1
 
 -- ---- what the markers show
 
-pub shown_none : (setup : SetupView) (n mask r i : ℕ) (ins : List LaneInIs) → ¬ IsIn n (numbers_in ins) → shown setup n (marked_entries mask r i ins) ≡ []
+pub shown_none : (setup : SetupView) (n mask r i : ℕ) (ins : List LaneInIs) → ¬ IsIn n (lane_numbers_in ins) → shown setup n (marked_entries mask r i ins) ≡ []
 shown_none setup n mask r i [] f = refl
 shown_none setup n mask r i (a ∷ more) f = go (has mask i) (shown_none setup n mask r (i + 1) more (λ h. f (inr h)))
   where
@@ -115,12 +115,12 @@ shown_none setup n mask r i (a ∷ more) f = go (has mask i) (shown_none setup n
 pub self_test : (n : ℕ) → (n == n) ≡ true
 self_test n = eq-eqb n n refl
 
-pub in_numbers_at : (k : ℕ) (a : LaneInIs) (ins : List LaneInIs) → slice_get ins k ≡ Some a → IsIn a.number (numbers_in ins)
+pub in_numbers_at : (k : ℕ) (a : LaneInIs) (ins : List LaneInIs) → slice_get ins k ≡ Some a → IsIn a.number (lane_numbers_in ins)
 in_numbers_at k a [] g = absurd (cc)
 in_numbers_at zero a (b ∷ more) g = let e : b ≡ a = cc in inl (ap (λ (x : LaneInIs). x.number) (sym e))
 in_numbers_at (suc k) a (b ∷ more) g = inr (in_numbers_at k a more g)
 
-pub shown_marks : (setup : SetupView) (mask r i k : ℕ) (a : LaneInIs) (ins : List LaneInIs) → AreDistinct (numbers_in ins) → slice_get ins k ≡ Some a
+pub shown_marks : (setup : SetupView) (mask r i k : ℕ) (a : LaneInIs) (ins : List LaneInIs) → AreDistinct (lane_numbers_in ins) → slice_get ins k ≡ Some a
     → shown setup a.number (marked_entries mask r i ins) ≡ cond (has mask (i + k)) (marker setup r) []
 shown_marks setup mask r i k a [] d g = absurd (cc)
 shown_marks setup mask r i zero a (b ∷ more) d g =
@@ -136,7 +136,7 @@ shown_marks setup mask r i (suc k) a (b ∷ more) d g =
   where
     other : (c : Bool) → (b.number == a.number) ≡ c → shown setup a.number (marked_entries mask r (i + 1) more) ≡ cond (has mask ((i + 1) + k)) (marker setup r) []
         → cond c (marker setup r) [] ++ shown setup a.number (marked_entries mask r (i + 1) more) ≡ cond (has mask ((i + 1) + k)) (marker setup r) []
-    other true e h = absurd (d.0 (subst (λ n. IsIn n (numbers_in more)) (sym (eqb-true b.number a.number e)) (in_numbers_at k a more g)))
+    other true e h = absurd (d.0 (subst (λ n. IsIn n (lane_numbers_in more)) (sym (eqb-true b.number a.number e)) (in_numbers_at k a more g)))
     other false e h = h
 
     go : (c : Bool) → shown setup a.number (marked_entries mask r (i + 1) more) ≡ cond (has mask ((i + 1) + k)) (marker setup r) []
@@ -166,7 +166,7 @@ show_marker setup mask r i new (a ∷ more) f = (
 
 pub takes_marked : (setup : SetupView) (mask r cover i : ℕ) (journal later new : List Entry) (ins : List LaneInIs) → marker setup r ≡ Mark r cover ∷ []
     → ((n : ℕ) → shown setup n later ≡ shown setup n journal ++ shown setup n new) → ShowMarker setup mask r new i ins → HoldMarker mask r cover i ins
-    → Each (ShowsTaken setup journal) ins → Each (ShowsTaken setup later) (emptied mask i ins)
+    → EachOne (ShowsTaken setup journal) ins → EachOne (ShowsTaken setup later) (emptied mask i ins)
 takes_marked setup mask r cover i journal later new [] m f s h t = tt
 takes_marked setup mask r cover i journal later new (a ∷ more) m f s h t =
     (go (has mask i) refl s.0, takes_marked setup mask r cover (i + 1) journal later new more m f s.1 h.1 t.1)

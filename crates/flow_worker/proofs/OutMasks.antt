@@ -5,9 +5,9 @@ use Rattle.std.specs.List.{list_any}
 use Rattle.std.proofs.lemmas.Bool.Decides.{eqb_tells, nat_tests}
 use Rattle.std.proofs.lemmas.List.{length-append, length-set, nil_from_length}
 use Rattle.flow_dag.specs.Masks.{has}
-use Rattle.flow_worker.specs.Endpoints.{Flushed, IsSteadyOut, all_sent, LaneOutIs, Reserved, SameButMemory, is_waiting}
+use Rattle.flow_worker.specs.Endpoints.{Flushed, IsSteadyOut, sent_in_all, LaneOutIs, Reserved, SameButMemory, is_waiting}
 use Rattle.flow_worker.specs.Masks.{AreMarked, FlushedAt, IsMarkOf, IsMaskWith, passes}
-use Rattle.flow_worker.specs.Pairs.{Each, EachPair}
+use Rattle.flow_worker.specs.Pairs.{EachOne, EachPair}
 use Rattle.flow_worker.proofs.HandMasks.{each_set, passes_get, passes_set, passes_within}
 use Rattle.flow_worker.proofs.MaskLemmas.{has_zero}
 use Rattle.flow_worker.proofs.Pairs.{each_get, each_true, pairs_each, sum_grows, sum_moved}
@@ -22,15 +22,15 @@ idle_item o e = nil_from_length o.waiting (go (length o.waiting) e)
     go zero e = refl
     go (suc n) e = absurd (let t : nat_lt 0 (suc n) ≡ true = grind (arith, nat_tests) in cc)
 
-none_waits : (outs : List LaneOutIs) → Each (λ (o : LaneOutIs). o.waiting ≡ []) outs → (k : ℕ) → passes is_waiting outs k ≡ false
+none_waits : (outs : List LaneOutIs) → EachOne (λ (o : LaneOutIs). o.waiting ≡ []) outs → (k : ℕ) → passes is_waiting outs k ≡ false
 none_waits [] e k = refl
 none_waits (o ∷ more) e zero = no_item o e.0
 none_waits (o ∷ more) e (suc k) = none_waits more e.1 k
 
-pub no_room : (outs : List LaneOutIs) → Each (λ (o : LaneOutIs). 0 ≤ o.memory) outs
+pub no_room : (outs : List LaneOutIs) → EachOne (λ (o : LaneOutIs). 0 ≤ o.memory) outs
 no_room outs = each_true (λ (o : LaneOutIs). 0 ≤ o.memory) outs (λ o. omega arith)
 
-pub new_marks : (outs : List LaneOutIs) → Each (λ (o : LaneOutIs). o.waiting ≡ []) outs → AreMarked 0 0 outs
+pub new_marks : (outs : List LaneOutIs) → EachOne (λ (o : LaneOutIs). o.waiting ≡ []) outs → AreMarked 0 0 outs
 new_marks outs e = record {
   waiting_is = λ k l w. let n = none_waits outs e k in absurd (cc);
   room_is = no_room outs;
@@ -51,7 +51,7 @@ unmarked mask outs zero_is few is = none_any is_waiting outs (λ k. go k (passes
         let b : has mask k ≡ false = ap (λ m. has m k) zero_is ∙ has_zero k in
         absurd (cc)
 
-any_none : {A : Type 0} (p : A → Bool) (xs : List A) → list_any p xs ≡ false → Each (λ x. p x ≡ false) xs
+any_none : {A : Type 0} (p : A → Bool) (xs : List A) → list_any p xs ≡ false → EachOne (λ x. p x ≡ false) xs
 any_none p [] e = tt
 any_none p (x ∷ xs) e = let s = or_parts_false (p x) (list_any p xs) e in (s.0, any_none p xs s.1)
   where
@@ -62,7 +62,7 @@ any_none p (x ∷ xs) e = let s = or_parts_false (p x) (list_any p xs) e in (s.0
 pub has_room : (more room mask : ℕ) (outs : List LaneOutIs) → more ≤ room → list_any is_waiting outs ≡ false → AreMarked mask room outs → EachPair (Reserved more) outs outs
 has_room more room mask outs l e are = go outs (any_none is_waiting outs e) are.room_is
   where
-    go : (xs : List LaneOutIs) → Each (λ (o : LaneOutIs). is_waiting o ≡ false) xs → Each (λ (o : LaneOutIs). room ≤ o.memory) xs → EachPair (Reserved more) xs xs
+    go : (xs : List LaneOutIs) → EachOne (λ (o : LaneOutIs). is_waiting o ≡ false) xs → EachOne (λ (o : LaneOutIs). room ≤ o.memory) xs → EachPair (Reserved more) xs xs
     go [] h r = tt
     go (o ∷ xs) h r =
         let n : length o.waiting ≡ 0 = ap length (idle_item o h.0) in
@@ -182,7 +182,7 @@ first_flushed mask outs few is k d l e = still (get_or outs k d) (go (is_waiting
       full = inl (idle_item o idle);
     }
 
-pub steady_set : (outs : List LaneOutIs) (place : ℕ) (z : LaneOutIs) → place < length outs → Flushed (get_or outs place z) z → Each IsSteadyOut outs → Each IsSteadyOut (set outs place z)
+pub steady_set : (outs : List LaneOutIs) (place : ℕ) (z : LaneOutIs) → place < length outs → Flushed (get_or outs place z) z → EachOne IsSteadyOut outs → EachOne IsSteadyOut (set outs place z)
 steady_set outs place z l f e =
     each_set IsSteadyOut outs place z e (go (get_or outs place z) f (each_get IsSteadyOut outs place z e l))
   where
@@ -190,10 +190,10 @@ steady_set outs place z l f e =
     go a f h = rw (f.same.2, f.planned_is) h
 
 pub moved_at : (outs items : List LaneOutIs) (place : ℕ) (d lane z : LaneOutIs) (moved : Bool) → items ≡ outs → place < length items → lane ≡ get_or items place d → (IsTrue moved ↔ (length lane.sent < length z.sent))
-    → IsTrue moved ↔ (all_sent outs < all_sent (set items place z))
+    → IsTrue moved ↔ (sent_in_all outs < sent_in_all (set items place z))
 moved_at outs items place d lane z moved same l at h =
-    subst (λ (xs : List LaneOutIs). IsTrue moved ↔ (all_sent xs < all_sent (set items place z))) same
+    subst (λ (xs : List LaneOutIs). IsTrue moved ↔ (sent_in_all xs < sent_in_all (set items place z))) same
     (sum_moved (λ (o : LaneOutIs). length o.sent) items place d z moved l (subst (λ (o : LaneOutIs). IsTrue moved ↔ (length o.sent < length z.sent)) at h))
 
-pub flushed_grows : (place : ℕ) (xs ys : List LaneOutIs) → FlushedAt place xs ys → place < length xs → all_sent xs ≤ all_sent ys
+pub flushed_grows : (place : ℕ) (xs ys : List LaneOutIs) → FlushedAt place xs ys → place < length xs → sent_in_all xs ≤ sent_in_all ys
 flushed_grows place xs ys f l = rw f.set_is (sum_grows (λ (o : LaneOutIs). length o.sent) xs place f.at f.at l f.flushed.grew)

@@ -20,10 +20,10 @@ use Rattle.flow_model.proofs.LaneLemmas.{lane_self, same_lane}
 use Rattle.flow_model.specs.Topology.{out_edges}
 use Rattle.flow_model.specs.declared.topology.OutEdge.{OutEdge}
 use Rattle.flow_model.proofs.OutLanes.{out_distinct}
-use Rattle.flow_worker.specs.Pairs.{Each, EachPair}
-use Rattle.flow_worker.specs.Endpoints.{Appended, HasRoom, LaneOutIs}
+use Rattle.flow_worker.specs.Pairs.{EachOne, EachPair}
+use Rattle.flow_worker.specs.Endpoints.{Appended, HasRoomFor, LaneOutIs}
 use Rattle.flow_worker.specs.Steps.{items_at, items_if, place_from}
-use Rattle.flow_worker.specs.Worker.{IsSenderAt, numbers_out}
+use Rattle.flow_worker.specs.Worker.{IsSenderAt, lane_numbers_out}
 use Rattle.flow_worker.proofs.Pairs.{get_mapped, length_mapped}
 use Rattle.flow_worker.proofs.OutputPlaces.{lane_at, no_route, place_below, route}
 
@@ -70,7 +70,7 @@ abbrev pub Comes : JobView → WorkerOf → List Output → List Output → Lane
 Comes job who all left a b =
     (items : List Item) × (b ≡ record a { waiting = a.waiting ++ items }) × (items ++ puts_at job who left a.number ≡ puts_at job who all a.number) × (length b.waiting + length left ≤ b.memory)
 
-pub comes_first : (job : JobView) (who : WorkerOf) (all : List Output) (outs : List LaneOutIs) → Each (HasRoom (length all)) outs → EachPair (Comes job who all all) outs outs
+pub comes_first : (job : JobView) (who : WorkerOf) (all : List Output) (outs : List LaneOutIs) → EachOne (HasRoomFor (length all)) outs → EachPair (Comes job who all all) outs outs
 comes_first job who all [] e = tt
 comes_first job who all (a ∷ more) e = (([], ap (λ xs. record a { waiting = xs }) (sym (append-nil a.waiting)), refl, e.0), comes_first job who all more e.1)
 
@@ -154,14 +154,14 @@ comes_room job who all rest output (suc k) d (a ∷ more) (b ∷ bs) l p = comes
 
 -- ---- together
 
-module _ (job : JobView) (node : ℕ) (law : IsLawful job) (who : WorkerOf) (outs : List LaneOutIs) (is : IsSenderAt job node who (numbers_out outs)) where
+module _ (job : JobView) (node : ℕ) (law : IsLawful job) (who : WorkerOf) (outs : List LaneOutIs) (is : IsSenderAt job node who (lane_numbers_out outs)) where
   exits_same : out_edges job node ≡ out_edges job who.node
   exits_same = ap (out_edges job) (sym is.node_is)
 
   pub place_within : (port : ℕ) (tuple : Tuple) (place : ℕ) (exits : List OutEdge) → exits ≡ out_edges job node → place_from job 0 exits port tuple ≡ Some place → place < length outs
   place_within port tuple place exits same e =
       let r = route job who port tuple place law is.there (subst (λ xs. place_from job 0 xs port tuple ≡ Some place) (same ∙ exits_same) e) in
-      let l = place_below job who.number place r.0 (numbers_out outs) is.numbers_are r.2 in
+      let l = place_below job who.number place r.0 (lane_numbers_out outs) is.numbers_are r.2 in
       omega (arith, l, length_mapped (λ (o : LaneOutIs). o.number) outs)
 
   pub delivers : (all rest : List Output) (output : Output) (place : ℕ) (exits : List OutEdge) (d z : LaneOutIs) (now : List LaneOutIs) → exits ≡ out_edges job node

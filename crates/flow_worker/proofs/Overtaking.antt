@@ -13,7 +13,7 @@ use Rattle.flow_model.specs.Planned.{IsPlanned}
 use Rattle.flow_model.specs.Points.{turned}
 use Rattle.flow_model.specs.SetupView.{SetupView}
 use Rattle.flow_model.proofs.ElementLemmas.{IsIn, contains_of_in, in_of_contains, in_right}
-use Rattle.flow_worker.specs.Pairs.{Each}
+use Rattle.flow_worker.specs.Pairs.{EachOne}
 use Rattle.flow_worker.specs.Steps.{marked_entries}
 use Rattle.flow_worker.specs.Worker.{IsWorker, WorkerIs, edges_of}
 use Rattle.flow_worker.specs.Turning.{AreTurns, GrowsByOneAct, IsAsBefore, IsFromOneAct, IsTurn, Polled, TurnsNext, added}
@@ -26,7 +26,7 @@ use Rattle.flow_worker.proofs.Acting.{head_places}
 abbrev Grew : WorkerIs → WorkerIs → Type 0
 Grew w v = (new : List Entry) × (v.journal ≡ w.journal ++ new)
 
-turns_grow : (setup : SetupView) (w : WorkerIs) (later : List WorkerIs) → AreTurns setup w later → Each (Grew w) later
+turns_grow : (setup : SetupView) (w : WorkerIs) (later : List WorkerIs) → AreTurns setup w later → EachOne (Grew w) later
 turns_grow setup w [] t = tt
 turns_grow setup w (v ∷ later) t =
     let g = t.0.1.grows in
@@ -57,13 +57,13 @@ turn_alone setup begin w v due planned h e head g c = go g.0 g.1 (subst (IsIn (T
         j ∙ ap (λ xs. w.journal ++ xs) alone
     go new j i (inr (inr (inr q))) = absurd (no_turned_ends due.request w.ins (subst (IsIn (Turned due.request)) q i))
 
-turned_then : (setup : SetupView) (w v : WorkerIs) (later : List WorkerIs) (r : ℕ) → AreTurns setup v later → v.journal ≡ w.journal ++ Turned r ∷ [] → Each (TurnsNext r w) (v ∷ later)
+turned_then : (setup : SetupView) (w v : WorkerIs) (later : List WorkerIs) (r : ℕ) → AreTurns setup v later → v.journal ≡ w.journal ++ Turned r ∷ [] → EachOne (TurnsNext r w) (v ∷ later)
 turned_then setup w v later r t e =
     (inr ([], e), each_map (Grew v) (TurnsNext r w) later (λ u k. inr (k.0, k.1 ∙ (ap (λ xs. xs ++ k.0) e ∙ append_assoc w.journal (Turned r ∷ []) k.0))) (turns_grow setup v later t))
 
 module _ (setup : SetupView) (planned : ∥ IsPlanned setup ∥₁) (begin : Begin) where
   after_turn : (w v : WorkerIs) (later : List WorkerIs) (n : ℕ) (due : Due) (result : turn_type.Turn) → IsWorker setup begin w → IsTurn setup result w v → AreTurns setup v later
-      → Polled w v n → w.due ≡ Some due → due.head ≡ true → w.owner.turned < n → (IsAsBefore w v → Each (TurnsNext due.request v) later) → Each (TurnsNext due.request w) (v ∷ later)
+      → Polled w v n → w.due ≡ Some due → due.head ≡ true → w.owner.turned < n → (IsAsBefore w v → EachOne (TurnsNext due.request v) later) → EachOne (TurnsNext due.request w) (v ∷ later)
   after_turn w v later n due turn.NoMemory h t more p e head l starved =
       let same = t.cause.journal in (
         inl same,
@@ -86,7 +86,7 @@ module _ (setup : SetupView) (planned : ∥ IsPlanned setup ∥₁) (begin : Beg
       omega (arith, l, risen, acknowledged)
 
   pub turns_next : (w v : WorkerIs) (later : List WorkerIs) (n : ℕ) (due : Due) → IsWorker setup begin w → AreTurns setup w (v ∷ later)
-      → Polled w v n → w.due ≡ Some due → due.head ≡ true → w.owner.turned < n → Each (TurnsNext due.request w) (v ∷ later)
+      → Polled w v n → w.due ≡ Some due → due.head ≡ true → w.owner.turned < n → EachOne (TurnsNext due.request w) (v ∷ later)
   turns_next w v [] n due h t p e head l = after_turn w v [] n due t.0.0 h t.0.1 t.1 p e head l (λ b. tt)
   turns_next w v (u ∷ later) n due h t p e head l =
       after_turn w v (u ∷ later) n due t.0.0 h t.0.1 t.1 p e head l

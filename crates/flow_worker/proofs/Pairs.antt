@@ -5,7 +5,7 @@ use Rattle.std.proofs.Math.Nat.{eq-or-lt_of_le}
 use Rattle.std.proofs.lemmas.List.{drop-set-lt}
 use Rattle.std.proofs.lemmas.Grind.{take-set_at}
 use Rattle.flow_model.proofs.ElementLemmas.{IsIn}
-use Rattle.flow_worker.specs.Pairs.{Each, EachPair, FirstPairs, total}
+use Rattle.flow_worker.specs.Pairs.{EachOne, EachPair, FirstPairs, sum_each}
 
 pub first_none : {A : Type 0} (R : A → A → Type 0) (xs : List A) → FirstPairs R 0 xs xs
 first_none R xs = refl
@@ -36,24 +36,24 @@ first_next R (suc n) (x ∷ xs) [] d f = absurd f
 first_next R (suc n) (x ∷ xs) (y ∷ ys) d f = first_next R n xs ys d f.1
 
 -- a write changes a sum by the difference
-pub sum_set : {A : Type 0} (f : A → ℕ) (xs : List A) (n : ℕ) (d z : A) → n < length xs → total f (set xs n z) + f (get_or xs n d) ≡ total f xs + f z
+pub sum_set : {A : Type 0} (f : A → ℕ) (xs : List A) (n : ℕ) (d z : A) → n < length xs → sum_each f (set xs n z) + f (get_or xs n d) ≡ sum_each f xs + f z
 sum_set f [] n d z l = absurd (omega arith)
-sum_set f (x ∷ xs) zero d z l = swap_ends (f z) (total f xs) (f x)
+sum_set f (x ∷ xs) zero d z l = swap_ends (f z) (sum_each f xs) (f x)
   where
     swap_ends : (a b c : ℕ) → (a + b) + c ≡ (c + b) + a
     swap_ends a b c = omega arith
-sum_set f (x ∷ xs) (suc n) d z l = under (f x) (total f (set xs n z)) (f (get_or xs n d)) (total f xs) (f z) (sum_set f xs n d z (omega arith))
+sum_set f (x ∷ xs) (suc n) d z l = under (f x) (sum_each f (set xs n z)) (f (get_or xs n d)) (sum_each f xs) (f z) (sum_set f xs n d z (omega arith))
   where
     under : (a b c d e : ℕ) → b + c ≡ d + e → (a + b) + c ≡ (a + d) + e
     under a b c d e h = omega arith
 
-pub sum_grows : {A : Type 0} (f : A → ℕ) (xs : List A) (n : ℕ) (d z : A) → n < length xs → f (get_or xs n d) ≤ f z → total f xs ≤ total f (set xs n z)
+pub sum_grows : {A : Type 0} (f : A → ℕ) (xs : List A) (n : ℕ) (d z : A) → n < length xs → f (get_or xs n d) ≤ f z → sum_each f xs ≤ sum_each f (set xs n z)
 sum_grows f xs n d z l h = omega (arith, sum_set f xs n d z l)
 
-pub sum_rises : {A : Type 0} (f : A → ℕ) (xs : List A) (n : ℕ) (d z : A) → n < length xs → f (get_or xs n d) < f z → total f xs < total f (set xs n z)
+pub sum_rises : {A : Type 0} (f : A → ℕ) (xs : List A) (n : ℕ) (d z : A) → n < length xs → f (get_or xs n d) < f z → sum_each f xs < sum_each f (set xs n z)
 sum_rises f xs n d z l h = omega (arith, sum_set f xs n d z l)
 
-pub sum_moved : {A : Type 0} (f : A → ℕ) (xs : List A) (n : ℕ) (d z : A) (moved : Bool) → n < length xs → (IsTrue moved ↔ (f (get_or xs n d) < f z)) → IsTrue moved ↔ (total f xs < total f (set xs n z))
+pub sum_moved : {A : Type 0} (f : A → ℕ) (xs : List A) (n : ℕ) (d z : A) (moved : Bool) → n < length xs → (IsTrue moved ↔ (f (get_or xs n d) < f z)) → IsTrue moved ↔ (sum_each f xs < sum_each f (set xs n z))
 sum_moved f xs n d z moved l h = ((λ t. sum_rises f xs n d z l (h.0 t)), (λ t. h.1 (omega (arith, t, sum_set f xs n d z l))))
 
 -- a number that rises only if something moved is the same if nothing did
@@ -63,7 +63,7 @@ not_moved a b moved grew h still = elim (eq-or-lt_of_le grew) [
   | inr l ↦ (let m : moved ≡ true = h.1 l in absurd (cc))
 ]
 
-pub each_get : {A : Type 0} (P : A → Type 0) (xs : List A) (n : ℕ) (d : A) → Each P xs → n < length xs → P (get_or xs n d)
+pub each_get : {A : Type 0} (P : A → Type 0) (xs : List A) (n : ℕ) (d : A) → EachOne P xs → n < length xs → P (get_or xs n d)
 each_get P [] n d e l = absurd (omega arith)
 each_get P (x ∷ xs) zero d e l = e.0
 each_get P (x ∷ xs) (suc n) d e l = each_get P xs n d e.1 (omega arith)
@@ -123,7 +123,7 @@ pairs_length R (x ∷ xs) [] r = absurd r
 pairs_length R (x ∷ xs) (y ∷ ys) r = ap suc (pairs_length R xs ys r.1)
 
 -- what the pairs make of a fact of each element
-pub pairs_each : {A : Type 0} (R : A → A → Type 0) (P Q : A → Type 0) (xs ys : List A) → ((x y : A) → R x y → P x → Q y) → EachPair R xs ys → Each P xs → Each Q ys
+pub pairs_each : {A : Type 0} (R : A → A → Type 0) (P Q : A → Type 0) (xs ys : List A) → ((x y : A) → R x y → P x → Q y) → EachPair R xs ys → EachOne P xs → EachOne Q ys
 pairs_each R P Q [] [] h r e = tt
 pairs_each R P Q [] (y ∷ ys) h r e = absurd r
 pairs_each R P Q (x ∷ xs) [] h r e = absurd r
@@ -139,26 +139,26 @@ pairs_keep R f (x ∷ xs) (y ∷ ys) h r = cons_same (h x y r.0) (pairs_keep R f
     cons_same : {C : Type 0} {a b : C} {cs ds : List C} → a ≡ b → cs ≡ ds → a ∷ cs ≡ b ∷ ds
     cons_same p q = cc
 
-pub each_true : {A : Type 0} (P : A → Type 0) (xs : List A) → ((x : A) → P x) → Each P xs
+pub each_true : {A : Type 0} (P : A → Type 0) (xs : List A) → ((x : A) → P x) → EachOne P xs
 each_true P [] h = tt
 each_true P (x ∷ xs) h = (h x, each_true P xs h)
 
 -- ---- by elements
 
-pub each_at : {A : Type 0} (P : A → Type 0) (x : A) (xs : List A) → Each P xs → IsIn x xs → P x
+pub each_at : {A : Type 0} (P : A → Type 0) (x : A) (xs : List A) → EachOne P xs → IsIn x xs → P x
 each_at P x [] e i = absurd i
 each_at P x (y ∷ xs) e (inl q) = subst P (sym q) e.0
 each_at P x (y ∷ xs) e (inr i) = each_at P x xs e.1 i
 
-pub each_of : {A : Type 0} (P : A → Type 0) (xs : List A) → ((x : A) → IsIn x xs → P x) → Each P xs
+pub each_of : {A : Type 0} (P : A → Type 0) (xs : List A) → ((x : A) → IsIn x xs → P x) → EachOne P xs
 each_of P [] f = tt
 each_of P (x ∷ xs) f = (f x (inl refl), each_of P xs (λ y i. f y (inr i)))
 
-pub each_both : {A : Type 0} (P Q : A → Type 0) (xs : List A) → Each P xs → Each Q xs → Each (λ x. P x × Q x) xs
+pub each_both : {A : Type 0} (P Q : A → Type 0) (xs : List A) → EachOne P xs → EachOne Q xs → EachOne (λ x. P x × Q x) xs
 each_both P Q [] a b = tt
 each_both P Q (x ∷ xs) a b = ((a.0, b.0), each_both P Q xs a.1 b.1)
 
-pub each_map : {A : Type 0} (P Q : A → Type 0) (xs : List A) → ((x : A) → P x → Q x) → Each P xs → Each Q xs
+pub each_map : {A : Type 0} (P Q : A → Type 0) (xs : List A) → ((x : A) → P x → Q x) → EachOne P xs → EachOne Q xs
 each_map P Q [] f a = tt
 each_map P Q (x ∷ xs) f a = (f x a.0, each_map P Q xs f a.1)
 

@@ -8,7 +8,7 @@ use Rattle.std.proofs.lemmas.Option.{same_Some, slice_get_within}
 use Rattle.flow_dag.specs.declared.graph.Graph.{Graph}
 use Rattle.flow_model.specs.Covers.{covers_edge}
 use Rattle.flow_model.specs.Dues.{edges_in}
-use Rattle.flow_worker.specs.Pairs.{Each}
+use Rattle.flow_worker.specs.Pairs.{EachOne}
 use Rattle.flow_model.specs.Lanes.{is_sender, lanes, lanes_out, lanes_that, marked_lanes}
 use Rattle.flow_model.specs.declared.topology.Lane.{Lane}
 use Rattle.flow_model.specs.SetupView.{SetupView, Worker as WorkerOf}
@@ -20,7 +20,7 @@ use Rattle.flow_model.proofs.WorkerPlaces.{node_below, nth_worker-get}
 use Rattle.flow_model.proofs.WorkerLemmas.{worker_with}
 use Rattle.flow_model.proofs.OutLanes.{on_passing, out_distinct}
 use Rattle.flow_worker.specs.Endpoints.{LaneInIs, LaneOutIs}
-use Rattle.flow_worker.specs.Worker.{IsEndpointIn, IsEndpointOut, IsPlaced, WorkerIs, edges_of, numbers_in}
+use Rattle.flow_worker.specs.Worker.{IsEndpointIn, IsEndpointOut, IsPlaced, WorkerIs, edges_of, lane_numbers_in}
 use Rattle.flow_worker.proofs.Pairs.{each_at, each_map, each_of, get_map}
 
 -- the numbered lanes that pass a test, with their numbers
@@ -28,21 +28,21 @@ abbrev pub passing : (Lane → Bool) → JobView → List (ℕ × Lane)
 passing test job = filter (λ (p : ℕ × Lane). test p.1) (enumerate_from 0 (lanes job))
 
 -- each is the lane with its number, and passes the test
-passes : (test : Lane → Bool) (job : JobView) → Each (λ (p : ℕ × Lane). (slice_get (lanes job) p.0 ≡ Some p.1) × (test p.1 ≡ true)) (passing test job)
+passes : (test : Lane → Bool) (job : JobView) → EachOne (λ (p : ℕ × Lane). (slice_get (lanes job) p.0 ≡ Some p.1) × (test p.1 ≡ true)) (passing test job)
 passes test job = each_of (λ (p : ℕ × Lane). (slice_get (lanes job) p.0 ≡ Some p.1) × (test p.1 ≡ true)) (passing test job) (λ p i.
     let f = in_filter (λ (p : ℕ × Lane). test p.1) p (enumerate_from 0 (lanes job)) i in
     let q = in_enumerate 0 (lanes job) p f.0 in
     (subst (λ n. slice_get (lanes job) n ≡ Some p.1) (let a = q.1 in omega arith) q.2, f.1))
 
 -- the edges of lanes at their places are those of the lanes with their numbers
-edges_among : (setup : SetupView) (graph : Graph) (ins : List LaneInIs) (ps : List (ℕ × Lane)) → numbers_in ins ≡ map (λ (p : ℕ × Lane). p.0) ps → Each (IsEndpointIn setup graph) ins
-    → Each (λ (p : ℕ × Lane). slice_get (lanes setup.job) p.0 ≡ Some p.1) ps → edges_of ins ≡ map (λ (p : ℕ × Lane). p.1.edge) ps
+edges_among : (setup : SetupView) (graph : Graph) (ins : List LaneInIs) (ps : List (ℕ × Lane)) → lane_numbers_in ins ≡ map (λ (p : ℕ × Lane). p.0) ps → EachOne (IsEndpointIn setup graph) ins
+    → EachOne (λ (p : ℕ × Lane). slice_get (lanes setup.job) p.0 ≡ Some p.1) ps → edges_of ins ≡ map (λ (p : ℕ × Lane). p.1.edge) ps
 edges_among setup graph [] [] n e t = refl
 edges_among setup graph [] (p ∷ ps) n e t = absurd (cc)
 edges_among setup graph (a ∷ more) [] n e t = absurd (cc)
 edges_among setup graph (a ∷ more) (p ∷ ps) n e t =
     let number : a.number ≡ p.0 = cc in
-    let numbers : numbers_in more ≡ map (λ (p : ℕ × Lane). p.0) ps = cc in
+    let numbers : lane_numbers_in more ≡ map (λ (p : ℕ × Lane). p.0) ps = cc in
     let there : slice_get (lanes setup.job) a.number ≡ Some p.1 = subst (λ k. slice_get (lanes setup.job) k ≡ Some p.1) (sym number) t.0 in
     let same : e.0.lane ≡ p.1 = same_Some e.0.lane p.1 (sym e.0.numbered ∙ there) in
     let here : a.edge ≡ p.1.edge = e.0.edge_is ∙ ap (λ (l : Lane). l.edge) same in
@@ -68,7 +68,7 @@ module _ (setup : SetupView) (who : WorkerOf) (w : WorkerIs) (k : IsPlaced setup
   pub number_is : who.number ≡ w.number
   number_is = (worker_with setup.job w.number who k.who_is).0
 
-  pub ins_distinct : AreDistinct (numbers_in w.ins)
+  pub ins_distinct : AreDistinct (lane_numbers_in w.ins)
   ins_distinct = subst AreDistinct (sym k.ins_are) (lanes_that_distinct (λ (lane : Lane). lane.receiver == w.number) setup.job)
 
   -- a lane in hand leads to the worker
@@ -98,8 +98,8 @@ module _ (setup : SetupView) (who : WorkerOf) (w : WorkerIs) (k : IsPlaced setup
       let q = in_lanes_that (λ (lane : Lane). (lane.receiver == who.number) && covers_edge setup r lane.edge) setup.job n i in
       let parts = and_parts (q.0.receiver == who.number) (covers_edge setup r q.0.edge) q.2 in
       let there : (q.0.receiver == w.number) ≡ true = subst (λ m. (q.0.receiver == m) ≡ true) number_is parts.0 in
-      let among : IsIn n (numbers_in w.ins) = subst (IsIn n) (sym k.ins_are) (lanes_that_in (λ (lane : Lane). lane.receiver == w.number) setup.job n q.0 q.1 there) in
-      let place = place_of_in n (numbers_in w.ins) among in
+      let among : IsIn n (lane_numbers_in w.ins) = subst (IsIn n) (sym k.ins_are) (lanes_that_in (λ (lane : Lane). lane.receiver == w.number) setup.job n q.0 q.1 there) in
+      let place = place_of_in n (lane_numbers_in w.ins) among in
       let at = get_map (λ (a : LaneInIs). a.number) w.ins place.0 n place.1 in
       let e = in_end at.0 (in_of_place at.0 w.ins place.0 at.1) in
       let x : slice_get (lanes setup.job) n ≡ Some e.lane = subst (λ m. slice_get (lanes setup.job) m ≡ Some e.lane) (sym at.2) e.numbered in

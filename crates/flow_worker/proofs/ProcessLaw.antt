@@ -17,14 +17,14 @@ use Rattle.flow_model.specs.Law.{IsEnabled, IsInTime, Progress, Duties, initial,
 use Rattle.flow_model.specs.declared.topology.Lane.{Lane}
 use Rattle.flow_model.specs.SetupView.{SetupView}
 use Rattle.flow_model.specs.Points.{turned}
-use Rattle.flow_model.specs.Replay.{StateView, Put, after, items_on, puts, sent, shown}
+use Rattle.flow_model.specs.Replay.{StateView, Put, after, items_on, puts, items_sent, shown}
 use Rattle.flow_model.specs.Run.{IsLawfulFrom}
 use Rattle.flow_model.specs.Duties.{duties}
 use Rattle.flow_model.proofs.ElementLemmas.{AreDistinct, IsIn, contains_of_in}
 use Rattle.flow_model.proofs.JournalLemmas.{IsExecution-append, after_all-append, progress_after-append, sent-append, shown-append}
-use Rattle.flow_worker.specs.Pairs.{Each}
+use Rattle.flow_worker.specs.Pairs.{EachOne}
 use Rattle.flow_worker.specs.Endpoints.{Gains, LaneInIs, IsSteadyIn, LaneOutIs, in_hand, planned}
-use Rattle.flow_worker.specs.Worker.{IsEndpointIn, IsEndpointOut, IsPlaced, IsWorker, Sends, ShowsTaken, WorkerIs, edges_of, view_now, numbers_in, progress_now}
+use Rattle.flow_worker.specs.Worker.{IsEndpointIn, IsEndpointOut, IsPlaced, IsWorker, Sends, ShowsTaken, WorkerIs, edges_of, view_now, lane_numbers_in, progress_now}
 use Rattle.flow_worker.specs.Steps.{HasProcessed, items_at, items_if, laid_down, view_of}
 use Rattle.flow_worker.proofs.Pairs.{pairs_each, pairs_keep, pairs_length}
 use Rattle.flow_worker.proofs.Marking.{in_numbers_at, self_test, turned-append}
@@ -42,7 +42,7 @@ length_laid k [] = refl
 length_laid zero (a ∷ more) = refl
 length_laid (suc k) (a ∷ more) = ap suc (length_laid k more)
 
-each_laid : (P : LaneInIs → Type 0) (k : ℕ) (ins : List LaneInIs) → ((a : LaneInIs) → P a → P (record a { hand = Empty })) → Each P ins → Each P (laid_down k ins)
+each_laid : (P : LaneInIs → Type 0) (k : ℕ) (ins : List LaneInIs) → ((a : LaneInIs) → P a → P (record a { hand = Empty })) → EachOne P ins → EachOne P (laid_down k ins)
 each_laid P k [] f e = tt
 each_laid P zero (a ∷ more) f e = (f a e.0, e.1)
 each_laid P (suc k) (a ∷ more) f e = (e.0, each_laid P k more f e.1)
@@ -62,24 +62,24 @@ met_there setup n m journal t f = shown-append setup n journal (Met m t ∷ []) 
     one true e = absurd (f (eqb-true m n e))
     one false e = refl
 
-takes_others : (setup : SetupView) (m : ℕ) (journal : List Entry) (t : Tuple) (ins : List LaneInIs) → ¬ IsIn m (numbers_in ins) → Each (ShowsTaken setup journal) ins
-    → Each (ShowsTaken setup (journal ++ Met m t ∷ [])) ins
+takes_others : (setup : SetupView) (m : ℕ) (journal : List Entry) (t : Tuple) (ins : List LaneInIs) → ¬ IsIn m (lane_numbers_in ins) → EachOne (ShowsTaken setup journal) ins
+    → EachOne (ShowsTaken setup (journal ++ Met m t ∷ [])) ins
 takes_others setup m journal t [] f e = tt
 takes_others setup m journal t (a ∷ more) f e =
     (rw (met_there setup a.number m journal t (λ q. f (inl q))) e.0, takes_others setup m journal t more (λ i. f (inr i)) e.1)
 
-takes_met : (setup : SetupView) (k : ℕ) (a : LaneInIs) (journal : List Entry) (t : Tuple) (ins : List LaneInIs) → AreDistinct (numbers_in ins) → slice_get ins k ≡ Some a → a.hand ≡ Holds (Carry t)
-    → Each (ShowsTaken setup journal) ins → Each (ShowsTaken setup (journal ++ Met a.number t ∷ [])) (laid_down k ins)
+takes_met : (setup : SetupView) (k : ℕ) (a : LaneInIs) (journal : List Entry) (t : Tuple) (ins : List LaneInIs) → AreDistinct (lane_numbers_in ins) → slice_get ins k ≡ Some a → a.hand ≡ Holds (Carry t)
+    → EachOne (ShowsTaken setup journal) ins → EachOne (ShowsTaken setup (journal ++ Met a.number t ∷ [])) (laid_down k ins)
 takes_met setup k a journal t [] d g h e = absurd (cc)
 takes_met setup zero a journal t (b ∷ more) d g h e =
     let q : b ≡ a = cc in
     let taken : b.taken ≡ shown setup b.number journal ++ Carry t ∷ [] = e.0 ∙ ap (λ x. shown setup b.number journal ++ in_hand x) (ap (λ (x : LaneInIs). x.hand) q ∙ h) in
-    subst (λ (x : LaneInIs). Each (ShowsTaken setup (journal ++ Met x.number t ∷ [])) (record b { hand = Empty } ∷ more)) q (
+    subst (λ (x : LaneInIs). EachOne (ShowsTaken setup (journal ++ Met x.number t ∷ [])) (record b { hand = Empty } ∷ more)) q (
       (taken ∙ (sym (met_here setup b.number journal t) ∙ sym (append-nil (shown setup b.number (journal ++ Met b.number t ∷ []))))),
       takes_others setup b.number journal t more d.0 e.1,
     )
 takes_met setup (suc k) a journal t (b ∷ more) d g h e = (
-  rw (met_there setup b.number a.number journal t (λ q. d.0 (subst (λ n. IsIn n (numbers_in more)) q (in_numbers_at k a more g)))) e.0,
+  rw (met_there setup b.number a.number journal t (λ q. d.0 (subst (λ n. IsIn n (lane_numbers_in more)) q (in_numbers_at k a more g)))) e.0,
   takes_met setup k a journal t more d.1 g h e.1,
 )
 
@@ -130,10 +130,10 @@ module _ (setup : SetupView) (begin : Begin) (keeps : KeepsSteady setup) (place 
     abbrev gained : LaneOutIs → List Item
     gained out = items_at setup.job put out.number
 
-    longer_sent : (lane : Lane) → sent setup h.who first lane longer ≡ sent setup h.who first lane w.journal ++ items_on lane put
+    longer_sent : (lane : Lane) → items_sent setup h.who first lane longer ≡ items_sent setup h.who first lane w.journal ++ items_on lane put
     longer_sent lane =
         sent-append setup h.who first lane w.journal (entry ∷ [])
-        ∙ ap (λ xs. sent setup h.who first lane w.journal ++ xs) (append-nil (items_on lane (puts setup h.who view entry)) ∙ ap (items_on lane) (sym same_puts))
+        ∙ ap (λ xs. items_sent setup h.who first lane w.journal ++ xs) (append-nil (items_on lane (puts setup h.who view entry)) ∙ ap (items_on lane) (sym same_puts))
 
     sends_more : (a b : LaneOutIs) → Gains gained a b → Sends setup begin h.who h.begun w.journal a → Sends setup begin h.who h.begun longer b
     sends_more a b e q lane g =
@@ -141,12 +141,12 @@ module _ (setup : SetupView) (begin : Begin) (keeps : KeepsSteady setup) (place 
         ap planned e
         ∙ (sym (append_assoc a.sent a.waiting (gained a))
         ∙ (ap (λ xs. xs ++ gained a) (q lane here)
-        ∙ (ap (λ (o : Option Lane). sent setup h.who first lane w.journal ++ items_if o put) here ∙ sym (longer_sent lane))))
+        ∙ (ap (λ (o : Option Lane). items_sent setup h.who first lane w.journal ++ items_if o put) here ∙ sym (longer_sent lane))))
 
     pub keeps_process : IsInTime st p.tuple (next_due progress.dues) → IsWorker setup begin v
     keeps_process in_time =
         let k = h.placed in
-        let distinct : AreDistinct (numbers_in w.ins) = ins_distinct setup h.who w k in
+        let distinct : AreDistinct (lane_numbers_in w.ins) = ins_distinct setup h.who w k in
         let among : Contains st.lanes p.at.number =
         contains_of_in p.at.number (lanes_in setup.job h.who.number)
         (subst (λ n. IsIn p.at.number (lanes_in setup.job n)) (sym (number_is setup h.who w k)) (subst (IsIn p.at.number) k.ins_are (in_numbers_at place p.at w.ins p.here))) in
@@ -158,14 +158,14 @@ module _ (setup : SetupView) (begin : Begin) (keeps : KeepsSteady setup) (place 
         }) in
         let now : StateView = view_now setup begin h.who h.begun v.journal in
         let now_is : now ≡ after setup h.who view entry = rw p.journal (after_all-append setup h.who first w.journal (entry ∷ [])) in
-        let numbers : numbers_in v.ins ≡ numbers_in w.ins = rw p.ins (mapped_laid (λ (a : LaneInIs). a.number) place w.ins (λ a. refl)) in
+        let numbers : lane_numbers_in v.ins ≡ lane_numbers_in w.ins = rw p.ins (mapped_laid (λ (a : LaneInIs). a.number) place w.ins (λ a. refl)) in
         let edges : edges_of v.ins ≡ edges_of w.ins = rw p.ins (mapped_laid (λ (a : LaneInIs). a.edge) place w.ins (λ a. refl)) in
-        let ends : Each (IsEndpointIn setup k.graph) v.ins = rw p.ins (each_laid (IsEndpointIn setup k.graph) place w.ins (end_emptied setup k.graph) k.ends_in) in
-        let takes : Each (ShowsTaken setup v.journal) v.ins = rw (p.journal, p.ins) (takes_met setup place p.at w.journal p.tuple w.ins distinct p.here p.held h.takes) in
-        let steady : Each IsSteadyIn v.ins = rw p.ins (each_laid IsSteadyIn place w.ins (λ a q. q) h.steady_in) in
+        let ends : EachOne (IsEndpointIn setup k.graph) v.ins = rw p.ins (each_laid (IsEndpointIn setup k.graph) place w.ins (end_emptied setup k.graph) k.ends_in) in
+        let takes : EachOne (ShowsTaken setup v.journal) v.ins = rw (p.journal, p.ins) (takes_met setup place p.at w.journal p.tuple w.ins distinct p.here p.held h.takes) in
+        let steady : EachOne IsSteadyIn v.ins = rw p.ins (each_laid IsSteadyIn place w.ins (λ a q. q) h.steady_in) in
         let long : length v.ins ≡ length w.ins = rw p.ins (length_laid place w.ins) in
         let outs_long : length v.outs ≡ length w.outs = pairs_length (Gains gained) w.outs v.outs p.outs in
-        let sends : Each (Sends setup begin h.who h.begun v.journal) v.outs = rw p.journal
+        let sends : EachOne (Sends setup begin h.who h.begun v.journal) v.outs = rw p.journal
         (pairs_each (Gains gained) (Sends setup begin h.who h.begun w.journal) (Sends setup begin h.who h.begun longer) w.outs v.outs sends_more p.outs h.sends) in
         let placed : IsPlaced setup h.who v = subst (IsPlaced setup h.who) (sym p.rest) (record {
           who_is = k.who_is;

@@ -13,15 +13,15 @@ use Rattle.flow_model.specs.Begin.{Begin, view_at}
 use Rattle.flow_model.specs.Lanes.{lanes, lanes_in}
 use Rattle.flow_model.specs.declared.topology.Lane.{Lane}
 use Rattle.flow_model.specs.SetupView.{SetupView, Worker as WorkerOf}
-use Rattle.flow_model.specs.Replay.{sent, shown}
+use Rattle.flow_model.specs.Replay.{items_sent, shown}
 use Rattle.flow_model.specs.Run.{IsLawfulFrom}
 use Rattle.flow_model.specs.Workers.{workers_in}
 use Rattle.flow_model.proofs.ElementLemmas.{IsIn, in_map}
 use Rattle.flow_model.proofs.LaneLemmas.{lanes_that_in}
 use Rattle.flow_model.proofs.WorkerLemmas.{worker_with}
-use Rattle.flow_worker.specs.Pairs.{Each}
+use Rattle.flow_worker.specs.Pairs.{EachOne}
 use Rattle.flow_worker.specs.Endpoints.{LaneInIs, IsSteadyIn, IsSteadyOut, LaneOutIs, in_hand, planned}
-use Rattle.flow_worker.specs.Worker.{IsEndpointIn, IsEndpointOut, IsPlaced, IsWorker, Sends, ShowsTaken, WorkerIs, numbers_in}
+use Rattle.flow_worker.specs.Worker.{IsEndpointIn, IsEndpointOut, IsPlaced, IsWorker, Sends, ShowsTaken, WorkerIs, lane_numbers_in}
 use Rattle.flow_worker.proofs.Pairs.{each_at, each_of}
 
 -- the two sentences of the law of one worker
@@ -35,11 +35,11 @@ KeepsSteady setup =
     → SendsSteadily setup graph begin who counts journal
 
 -- what the lanes in have shown is steady
-shows_steady : (setup : SetupView) (who : WorkerOf) (graph : Graph) (journal : List Entry) (ins : List LaneInIs) → numbers_in ins ≡ lanes_in setup.job who.number → Each (IsEndpointIn setup graph) ins
-    → Each (ShowsTaken setup journal) ins → Each IsSteadyIn ins → HasSteadyLanes setup graph who journal
+shows_steady : (setup : SetupView) (who : WorkerOf) (graph : Graph) (journal : List Entry) (ins : List LaneInIs) → lane_numbers_in ins ≡ lanes_in setup.job who.number → EachOne (IsEndpointIn setup graph) ins
+    → EachOne (ShowsTaken setup journal) ins → EachOne IsSteadyIn ins → HasSteadyLanes setup graph who journal
 shows_steady setup who graph journal ins are ends takes steady n lane edge g r e =
     let t : (lane.receiver == who.number) ≡ true = eq-eqb lane.receiver who.number r in
-    let i : IsIn n (numbers_in ins) = subst (IsIn n) (sym are) (lanes_that_in (λ (l : Lane). l.receiver == who.number) setup.job n lane g t) in
+    let i : IsIn n (lane_numbers_in ins) = subst (IsIn n) (sym are) (lanes_that_in (λ (l : Lane). l.receiver == who.number) setup.job n lane g t) in
     let a = in_map (λ (a : LaneInIs). a.number) n ins i in
     go a.0 a.2 (each_at (IsEndpointIn setup graph) a.0 ins ends a.1) (each_at (ShowsTaken setup journal) a.0 ins takes a.1) (each_at IsSteadyIn a.0 ins steady a.1)
   where
@@ -55,7 +55,7 @@ shows_steady setup who graph journal ins are ends takes steady n lane edge g r e
         rw q (IsSteady-front (record { graph = graph; from = edge.from }) (shown setup a.number journal) (in_hand a.hand) parts)
 
 pub works_steadily : (setup : SetupView) (begin : Begin) (who : WorkerOf) (w : WorkerIs) → (k : IsPlaced setup who w) → IsLawfulFrom setup begin who w.journal
-    → Each (ShowsTaken setup w.journal) w.ins → Each IsSteadyIn w.ins → WorksSteadily setup k.graph begin who w.journal
+    → EachOne (ShowsTaken setup w.journal) w.ins → EachOne IsSteadyIn w.ins → WorksSteadily setup k.graph begin who w.journal
 works_steadily setup begin who w k lawful takes steady =
     let number : who.number ≡ w.number = (worker_with setup.job w.number who k.who_is).0 in
     record {
@@ -66,13 +66,13 @@ works_steadily setup begin who w k lawful takes steady =
 
 -- so what was and will be sent is steady
 pub steady_by : (setup : SetupView) (begin : Begin) (who : WorkerOf) (begun : Counts) (w : WorkerIs) → KeepsSteady setup → IsPlaced setup who w → IsLawfulFrom setup begin who w.journal
-    → Each (ShowsTaken setup w.journal) w.ins → Each IsSteadyIn w.ins → Each (Sends setup begin who begun w.journal) w.outs → Each IsSteadyOut w.outs
+    → EachOne (ShowsTaken setup w.journal) w.ins → EachOne IsSteadyIn w.ins → EachOne (Sends setup begin who begun w.journal) w.outs → EachOne IsSteadyOut w.outs
 steady_by setup begin who begun w keeps k lawful takes steady sends =
     each_of IsSteadyOut w.outs (λ o i. one o (each_at (IsEndpointOut setup k.graph w.node) o w.outs k.ends_out i) (each_at (Sends setup begin who begun w.journal) o w.outs sends i))
   where
     one : (o : LaneOutIs) → IsEndpointOut setup k.graph w.node o → Sends setup begin who begun w.journal o → IsSteadyOut o
     one o end s =
-        let all : IsSteady (record { graph = k.graph; from = who.node }) (sent setup who (view_at setup begin.turned who begun) end.lane w.journal) =
+        let all : IsSteady (record { graph = k.graph; from = who.node }) (items_sent setup who (view_at setup begin.turned who begun) end.lane w.journal) =
         keeps k.graph begin who begun w.journal k.graph_is (works_steadily setup begin who w k lawful takes steady) end.lane in
         let mine : IsSteady (record { graph = k.graph; from = who.node }) (planned o) = subst (IsSteady (record { graph = k.graph; from = who.node })) (sym (s end.lane end.numbered)) all in
         let from : record { graph = k.graph; from = who.node } ≡ o.origin = sym (end.origin_is ∙ ap (λ n. record { graph = k.graph; from = n }) k.node_is) in

@@ -17,17 +17,17 @@ use Rattle.flow_model.specs.Law.{IsEnabled, IsExecution, Progress, Duties, initi
 use Rattle.flow_model.specs.declared.topology.Lane.{Lane}
 use Rattle.flow_model.specs.SetupView.{SetupView, Worker as WorkerOf}
 use Rattle.flow_model.specs.Points.{turned}
-use Rattle.flow_model.specs.Replay.{StateView, after, after_all, items_on, puts, sent, shown, with_change}
-use Rattle.flow_model.specs.Requests.{change_of, func_with}
+use Rattle.flow_model.specs.Replay.{StateView, after, after_all, items_on, puts, items_sent, shown, after_change}
+use Rattle.flow_model.specs.Requests.{change_by, func_with}
 use Rattle.flow_model.specs.Run.{IsLawfulFrom}
 use Rattle.flow_model.specs.Duties.{dues_after, duties}
 use Rattle.flow_model.proofs.ElementLemmas.{AreDistinct, IsIn, all_of_at, contains_of_in, in_of_place}
 use Rattle.flow_model.proofs.JournalLemmas.{IsExecution-append, after_all-append, progress_after-append, sent-append, shown-append}
-use Rattle.flow_worker.specs.Pairs.{Each}
+use Rattle.flow_worker.specs.Pairs.{EachOne}
 use Rattle.flow_worker.specs.Endpoints.{Gains, LaneInIs, IsSteadyIn, IsSteadyOut, LaneOutIs, planned}
 use Rattle.flow_model.specs.Dues.{AreDues, IsDueOf}
 use Rattle.flow_model.specs.InForce.{counts_with, func_in}
-use Rattle.flow_worker.specs.Worker.{IsEndpointIn, IsEndpointOut, IsPlaced, IsWorker, Sends, ShowsTaken, WorkerIs, edges_of, view_now, numbers_in, progress_now}
+use Rattle.flow_worker.specs.Worker.{IsEndpointIn, IsEndpointOut, IsPlaced, IsWorker, Sends, ShowsTaken, WorkerIs, edges_of, view_now, lane_numbers_in, progress_now}
 use Rattle.flow_worker.specs.Steps.{HasTurned, emptied, marked_entries, marker_on}
 use Rattle.flow_worker.proofs.Pairs.{each_both, each_of, get_mapped, pairs_each, pairs_keep, pairs_length}
 use Rattle.flow_worker.proofs.Marking.{AreMarked, HoldMarker, at_onto, view_marks, marks_follow, marks_onto, progress_marks, sent_marks, show_marker, shown_marks, takes_marked, turned-append, turned_marks}
@@ -44,7 +44,7 @@ mapped_emptied f mask i (a ∷ more) same = go (has mask i) (mapped_emptied f ma
     go true h = let e = same a in cc
     go false h = ap (λ ys. f a ∷ ys) h
 
-pub each_emptied : (P : LaneInIs → Type 0) (mask i : ℕ) (ins : List LaneInIs) → ((a : LaneInIs) → P a → P (record a { hand = Empty })) → Each P ins → Each P (emptied mask i ins)
+pub each_emptied : (P : LaneInIs → Type 0) (mask i : ℕ) (ins : List LaneInIs) → ((a : LaneInIs) → P a → P (record a { hand = Empty })) → EachOne P ins → EachOne P (emptied mask i ins)
 each_emptied P mask i [] f e = tt
 each_emptied P mask i (a ∷ more) f e = (go (has mask i), each_emptied P mask (i + 1) more f e.1)
   where
@@ -111,7 +111,7 @@ module _ (setup : SetupView) (begin : Begin) (keeps : KeepsSteady setup) (due : 
     number : who.number ≡ w.number
     number = number_is setup h.who w h.placed
 
-    distinct : AreDistinct (numbers_in w.ins)
+    distinct : AreDistinct (lane_numbers_in w.ins)
     distinct = ins_distinct setup h.who w h.placed
 
     -- the mask has the places of the lanes that bring the marker
@@ -163,20 +163,20 @@ module _ (setup : SetupView) (begin : Begin) (keeps : KeepsSteady setup) (due : 
     shown_split : (n : ℕ) → shown setup n turned_journal ≡ shown setup n w.journal ++ shown setup n marks
     shown_split n = shown-append setup n (w.journal ++ marks) (Turned due.request ∷ []) ∙ (append-nil (shown setup n (w.journal ++ marks)) ∙ shown-append setup n w.journal marks)
 
-    turned_takes : Each (ShowsTaken setup turned_journal) (emptied due.lanes 0 w.ins)
+    turned_takes : EachOne (ShowsTaken setup turned_journal) (emptied due.lanes 0 w.ins)
     turned_takes = takes_marked setup due.lanes due.request due.cover 0 w.journal turned_journal marks w.ins is.marker_is shown_split
         (show_marker setup due.lanes due.request 0 marks w.ins (λ k a q. shown_marks setup due.lanes due.request 0 k a w.ins distinct q)) held h.takes
 
     turned_sent : (lane : Lane) → IsIn lane (lanes_out setup.job who.number)
-        → sent setup h.who (view_at setup begin.turned h.who h.begun) lane turned_journal
-        ≡ sent setup h.who (view_at setup begin.turned h.who h.begun) lane w.journal ++ cond (covers_edge setup due.request lane.edge) (Mark due.request due.cover ∷ []) []
+        → items_sent setup h.who (view_at setup begin.turned h.who h.begun) lane turned_journal
+        ≡ items_sent setup h.who (view_at setup begin.turned h.who h.begun) lane w.journal ++ cond (covers_edge setup due.request lane.edge) (Mark due.request due.cover ∷ []) []
     turned_sent lane i =
         let first : StateView = view_at setup begin.turned h.who h.begun in
         sent-append setup h.who first lane (w.journal ++ marks) (Turned due.request ∷ [])
         ∙ (ap (λ xs. xs ++ (items_on lane (puts setup h.who (after_all setup h.who first (w.journal ++ marks)) (Turned due.request)) ++ []))
         (sent-append setup h.who first lane w.journal marks
-        ∙ (ap (λ xs. sent setup h.who first lane w.journal ++ xs) (sent_marks setup h.who due.lanes due.request 0 lane view w.ins) ∙ append-nil (sent setup h.who first lane w.journal)))
-        ∙ ap (λ xs. sent setup h.who first lane w.journal ++ xs)
+        ∙ (ap (λ xs. items_sent setup h.who first lane w.journal ++ xs) (sent_marks setup h.who due.lanes due.request 0 lane view w.ins) ∙ append-nil (items_sent setup h.who first lane w.journal)))
+        ∙ ap (λ xs. items_sent setup h.who first lane w.journal ++ xs)
         (append-nil (items_on lane (puts setup h.who (after_all setup h.who first (w.journal ++ marks)) (Turned due.request)))
         ∙ turn_puts setup who.number due.request due.cover lane is.marker_is i))
 
@@ -196,14 +196,14 @@ module _ (setup : SetupView) (begin : Begin) (keeps : KeepsSteady setup) (due : 
         ap planned e
         ∙ (sym (append_assoc a.sent a.waiting (marker_of a))
         ∙ (ap (λ xs. xs ++ marker_of a) (q.0 lane here)
-        ∙ (ap (λ n. sent setup h.who (view_at setup begin.turned h.who h.begun) lane w.journal ++ cond (covers_edge setup due.request n) (Mark due.request due.cover ∷ []) []) (sym edge)
+        ∙ (ap (λ n. items_sent setup h.who (view_at setup begin.turned h.who h.begun) lane w.journal ++ cond (covers_edge setup due.request n) (Mark due.request due.cover ∷ []) []) (sym edge)
         ∙ sym (turned_sent lane (out_sends setup h.who w h.placed a q.1 lane here)))))
 
-    func_turned : (o : Option Change) (l : StateView) → func_with o l.func ≡ (with_change o l).func
+    func_turned : (o : Option Change) (l : StateView) → func_with o l.func ≡ (after_change o l).func
     func_turned None l = refl
     func_turned (Some change) l = refl
 
-    counts_turned : (o : Option Change) (l : StateView) → counts_with o l.counts ≡ (with_change o l).counts
+    counts_turned : (o : Option Change) (l : StateView) → counts_with o l.counts ≡ (after_change o l).counts
     counts_turned None l = refl
     counts_turned (Some change) l = refl
 
@@ -211,15 +211,15 @@ module _ (setup : SetupView) (begin : Begin) (keeps : KeepsSteady setup) (due : 
     turned_law v t =
         let k = h.placed in
         let node : w.node ≡ who.node = k.node_is in
-        let numbers : numbers_in v.ins ≡ numbers_in w.ins = rw t.ins (mapped_emptied (λ (a : LaneInIs). a.number) due.lanes 0 w.ins (λ a. refl)) in
+        let numbers : lane_numbers_in v.ins ≡ lane_numbers_in w.ins = rw t.ins (mapped_emptied (λ (a : LaneInIs). a.number) due.lanes 0 w.ins (λ a. refl)) in
         let edges : edges_of v.ins ≡ edges_of w.ins = rw t.ins (mapped_emptied (λ (a : LaneInIs). a.edge) due.lanes 0 w.ins (λ a. refl)) in
-        let ends : Each (IsEndpointIn setup k.graph) v.ins = rw t.ins (each_emptied (IsEndpointIn setup k.graph) due.lanes 0 w.ins (end_emptied setup k.graph) k.ends_in) in
+        let ends : EachOne (IsEndpointIn setup k.graph) v.ins = rw t.ins (each_emptied (IsEndpointIn setup k.graph) due.lanes 0 w.ins (end_emptied setup k.graph) k.ends_in) in
         let long : length v.ins ≡ length w.ins = rw t.ins (length_emptied due.lanes 0 w.ins) in
         let outs_long : length v.outs ≡ length w.outs = pairs_length (Gains marker_of) w.outs v.outs t.outs in
-        let takes : Each (ShowsTaken setup v.journal) v.ins = rw (t.journal, t.ins) turned_takes in
-        let steady : Each IsSteadyIn v.ins = rw t.ins (each_emptied IsSteadyIn due.lanes 0 w.ins (λ a q. q) h.steady_in) in
+        let takes : EachOne (ShowsTaken setup v.journal) v.ins = rw (t.journal, t.ins) turned_takes in
+        let steady : EachOne IsSteadyIn v.ins = rw t.ins (each_emptied IsSteadyIn due.lanes 0 w.ins (λ a q. q) h.steady_in) in
         let lawful : IsLawfulFrom setup begin h.who v.journal = rw t.journal turned_lawful in
-        let sends : Each (Sends setup begin h.who h.begun v.journal) v.outs = rw t.journal
+        let sends : EachOne (Sends setup begin h.who h.begun v.journal) v.outs = rw t.journal
         (pairs_each (Gains marker_of) (λ o. Sends setup begin h.who h.begun w.journal o × IsIn o w.outs) (Sends setup begin h.who h.begun turned_journal) w.outs v.outs turned_out t.outs
         (each_both (Sends setup begin h.who h.begun w.journal) (λ o. IsIn o w.outs) w.outs h.sends (each_of (λ o. IsIn o w.outs) w.outs (λ o i. i)))) in
         let placed : IsPlaced setup h.who v = subst (IsPlaced setup h.who) (sym t.rest) (record {
@@ -238,19 +238,19 @@ module _ (setup : SetupView) (begin : Begin) (keeps : KeepsSteady setup) (due : 
           room_out = rw outs_long k.room_out;
         }) in
         let all_dues : (progress_now setup begin h.who v.journal).dues ≡ dues_after setup due.request w.node = rw t.journal (ap (λ (p : Progress). p.dues) all_progress ∙ ap later_dues dues) in
-        let change : change_of setup due.request w.node ≡ change_of setup due.request who.node = ap (change_of setup due.request) node in
+        let change : change_by setup due.request w.node ≡ change_by setup due.request who.node = ap (change_by setup due.request) node in
         let now : StateView = view_now setup begin h.who h.begun v.journal in
         let now_is : now ≡ after setup h.who view (Turned due.request) = rw t.journal turned_view in
         let func : func_in setup w.node v.in_force ≡ Some now.func =
         t.func view.func h.func_is
-        ∙ ap Some (ap (λ (o : Option Change). func_with o view.func) change ∙ (func_turned (change_of setup due.request who.node) view ∙ sym (ap (λ (l : StateView). l.func) now_is))) in
+        ∙ ap Some (ap (λ (o : Option Change). func_with o view.func) change ∙ (func_turned (change_by setup due.request who.node) view ∙ sym (ap (λ (l : StateView). l.func) now_is))) in
         let counts : v.counts ≡ now.counts =
-        t.counts ∙ (ap (counts_with (change_of setup due.request w.node)) h.counts_is
-        ∙ (ap (λ (o : Option Change). counts_with o view.counts) change ∙ (counts_turned (change_of setup due.request who.node) view ∙ sym (ap (λ (l : StateView). l.counts) now_is)))) in
+        t.counts ∙ (ap (counts_with (change_by setup due.request w.node)) h.counts_is
+        ∙ (ap (λ (o : Option Change). counts_with o view.counts) change ∙ (counts_turned (change_by setup due.request who.node) view ∙ sym (ap (λ (l : StateView). l.counts) now_is)))) in
         let last : v.last ≡ now.last = t.last ∙ sym (ap (λ (l : StateView). l.last) now_is) in
         let few : IfSome v.due (λ (d : Due). v.owner.turned < d.request) = few_after v.due t.later.later (t.turned) in
         let turns : v.owner.turned ≡ length (turned v.journal) = rw t.journal (t.turned ∙ (ap (λ n. n + 1) h.turned_is ∙ sym turned_turns)) in
-        let steady_out : Each IsSteadyOut v.outs = steady_by setup begin h.who h.begun v keeps placed lawful takes steady sends in
+        let steady_out : EachOne IsSteadyOut v.outs = steady_by setup begin h.who h.begun v keeps placed lawful takes steady sends in
         let ended : (progress_now setup begin h.who v.journal).ended ≡ [] = rw t.journal (ap (λ (p : Progress). p.ended) all_progress ∙ h.unended open_) in
         let same_node : v.node ≡ w.node = ap (λ (x : WorkerIs). x.node) t.rest in
         let closed : v.closed ≡ false = ap (λ (x : WorkerIs). x.closed) t.rest ∙ open_ in

@@ -15,8 +15,8 @@ use Rattle.tuple_trace.specs.declared.tuple.Item.{Item}
 use Rattle.flow_model.specs.Begin.{Begin}
 use Rattle.flow_model.specs.SetupView.{SetupView, Worker as WorkerOf}
 use Rattle.flow_model.specs.Planned.{IsPlanned}
-use Rattle.flow_worker.specs.Pairs.{Each, EachPair}
-use Rattle.flow_worker.specs.Endpoints.{Filled, Flushed, LaneInIs, LaneOutIs, SameButMemory, SameIn, SameOut, all_sent, all_taken, is_waiting, planned}
+use Rattle.flow_worker.specs.Pairs.{EachOne, EachPair}
+use Rattle.flow_worker.specs.Endpoints.{Filled, Flushed, LaneInIs, LaneOutIs, SameButMemory, SameIn, SameOut, sent_in_all, all_taken, is_waiting, planned}
 use Rattle.flow_model.specs.Dues.{IsDueOf}
 use Rattle.flow_worker.specs.Worker.{IsPlaced, IsWorker, WorkerIs, edges_of, hands}
 use Rattle.flow_worker.specs.Steps.{MemoryOnly, PollsOnly, PutsOnly, TakesOnly}
@@ -32,7 +32,7 @@ use Rattle.flow_worker.proofs.ActLemmas.{acts_done, done_turned, emptied_none, e
 
 -- ---- what waits
 
-pub waiting_some : (outs : List LaneOutIs) → list_any is_waiting outs ≡ true → Each (λ (o : LaneOutIs). o.waiting ≡ []) outs → ⊥
+pub waiting_some : (outs : List LaneOutIs) → list_any is_waiting outs ≡ true → EachOne (λ (o : LaneOutIs). o.waiting ≡ []) outs → ⊥
 waiting_some [] e n = cc
 waiting_some (o ∷ more) e n = waiting_some more (go (is_waiting o) (idle o n.0) e) n.1
   where
@@ -43,7 +43,7 @@ waiting_some (o ∷ more) e n = waiting_some more (go (is_waiting o) (idle o n.0
     go true q e = absurd (cc)
     go false q e = e
 
-pub waiting_none : (outs : List LaneOutIs) → list_any is_waiting outs ≡ false → Each (λ (o : LaneOutIs). o.waiting ≡ []) outs
+pub waiting_none : (outs : List LaneOutIs) → list_any is_waiting outs ≡ false → EachOne (λ (o : LaneOutIs). o.waiting ≡ []) outs
 waiting_none [] e = tt
 waiting_none (o ∷ more) e = let p = parts (is_waiting o) (list_any is_waiting more) e in (none o.waiting refl p.0, waiting_none more p.1)
   where
@@ -57,9 +57,9 @@ waiting_none (o ∷ more) e = let p = parts (is_waiting o) (list_any is_waiting 
 
 -- ---- nothing was put or taken
 
-pub put_none : (w v : WorkerIs) (put : Bool) → PutsOnly w v → (IsTrue put ↔ (all_sent w.outs < all_sent v.outs)) → put ≡ false → all_sent v.outs ≡ all_sent w.outs
+pub put_none : (w v : WorkerIs) (put : Bool) → PutsOnly w v → (IsTrue put ↔ (sent_in_all w.outs < sent_in_all v.outs)) → put ≡ false → sent_in_all v.outs ≡ sent_in_all w.outs
 put_none w v put p moved none =
-    not_moved (all_sent w.outs) (all_sent v.outs) put (total_grows Flushed (λ (o : LaneOutIs). length o.sent) w.outs v.outs (λ a b f. f.grew) p.outs) moved none
+    not_moved (sent_in_all w.outs) (sent_in_all v.outs) put (total_grows Flushed (λ (o : LaneOutIs). length o.sent) w.outs v.outs (λ a b f. f.grew) p.outs) moved none
 
 pub took_none : (w v : WorkerIs) (took : Bool) → TakesOnly w v → (IsTrue took ↔ (all_taken w.ins < all_taken v.ins)) → took ≡ false → all_taken v.ins ≡ all_taken w.ins
 took_none w v took p moved none =
@@ -101,7 +101,7 @@ module _ (setup : SetupView) (agrees : KeepsAgreement setup) (w v : WorkerIs) (l
   pub closed_done : list_any is_waiting v.outs ≡ false → IsTurn setup turn.Done w v
   closed_done e = closed_turn turn.Done (still, waiting_none v.outs e)
 
-  pub closed_moved : list_any is_waiting v.outs ≡ true → all_sent w.outs < all_sent v.outs → IsTurn setup turn.Moved w v
+  pub closed_moved : list_any is_waiting v.outs ≡ true → sent_in_all w.outs < sent_in_all v.outs → IsTurn setup turn.Moved w v
   closed_moved e more =
       closed_turn turn.Moved (
         let j : length v.journal ≡ length w.journal = ap length same_journal in
@@ -109,7 +109,7 @@ module _ (setup : SetupView) (agrees : KeepsAgreement setup) (w v : WorkerIs) (l
         λ d. waiting_some v.outs e d.1,
       )
 
-  pub closed_idle : list_any is_waiting v.outs ≡ true → all_sent v.outs ≡ all_sent w.outs → IsTurn setup turn.Idle w v
+  pub closed_idle : list_any is_waiting v.outs ≡ true → sent_in_all v.outs ≡ sent_in_all w.outs → IsTurn setup turn.Idle w v
   closed_idle e same = closed_turn turn.Idle (
     (λ c. absurd (cc (c, closed))),
     (λ c. pairs_map Flushed FullWhereWaiting w.outs v.outs (λ a b f. f.full) p.outs),
@@ -197,11 +197,11 @@ module _ (setup : SetupView) (agrees : KeepsAgreement setup) (keeps : KeepsStead
         let s = total_grows Flushed (λ (o : LaneOutIs). length o.sent) w.outs w3.outs (λ a b f. f.grew) flushed in
         omega (arith, j, t, s)
 
-    pub moves_put : all_sent w.outs < all_sent w1.outs → moves w < moves w3
+    pub moves_put : sent_in_all w.outs < sent_in_all w1.outs → moves w < moves w3
     moves_put more =
         let j : length w3.journal ≡ length w.journal = ap length journal3 in
         let t = total_grows Filled (λ (a : LaneInIs). length a.taken) w.ins w3.ins (λ a b f. f.grew) filled in
-        let s : all_sent w3.outs ≡ all_sent w1.outs = ap all_sent outs3 in
+        let s : sent_in_all w3.outs ≡ sent_in_all w1.outs = ap sent_in_all outs3 in
         omega (arith, j, t, s, more)
 
     pub moves_took : all_taken w1.ins < all_taken w2.ins → moves w < moves w3
@@ -212,10 +212,10 @@ module _ (setup : SetupView) (agrees : KeepsAgreement setup) (keeps : KeepsStead
         let u : all_taken w1.ins ≡ all_taken w.ins = ap all_taken (ap (λ (x : WorkerIs). x.ins) puts.rest) in
         omega (arith, j, t, s, u, more)
 
-    pub moves_none : all_sent w1.outs ≡ all_sent w.outs → all_taken w2.ins ≡ all_taken w1.ins → moves w3 ≡ moves w
+    pub moves_none : sent_in_all w1.outs ≡ sent_in_all w.outs → all_taken w2.ins ≡ all_taken w1.ins → moves w3 ≡ moves w
     moves_none no_put no_take =
         let j : length w3.journal ≡ length w.journal = ap length journal3 in
-        let s : all_sent w3.outs ≡ all_sent w1.outs = ap all_sent outs3 in
+        let s : sent_in_all w3.outs ≡ sent_in_all w1.outs = ap sent_in_all outs3 in
         let t : all_taken w3.ins ≡ all_taken w2.ins = ap all_taken ins3 in
         let u : all_taken w1.ins ≡ all_taken w.ins = ap all_taken (ap (λ (x : WorkerIs). x.ins) puts.rest) in
         omega (arith, j, s, t, u, no_put, no_take)

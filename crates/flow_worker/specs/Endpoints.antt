@@ -7,7 +7,7 @@ use Rattle.lane_core.specs.Steady.{IsSteady}
 use Rattle.lane_core.specs.declared.form.Origin.{Origin}
 use Rattle.marker_align.specs.declared.held.Hand.{Hand}
 use Rattle.marker_align.specs.declared.held.Hand.TheVariants.{Empty, Holds}
-use Rattle.flow_worker.specs.Pairs.{total}
+use Rattle.flow_worker.specs.Pairs.{sum_each}
 
 -- A lane in: its receiving endpoint, its edge, and the item in hand.
 pub record LaneInIs : Type 0 where
@@ -98,10 +98,10 @@ IsSteadyOut out = IsSteady out.origin (planned out)
 
 -- how many items were taken from all lanes; how many were sent on all
 abbrev pub all_taken : List LaneInIs → ℕ
-all_taken ins = total (λ (a : LaneInIs). length a.taken) ins
+all_taken ins = sum_each (λ (a : LaneInIs). length a.taken) ins
 
-abbrev pub all_sent : List LaneOutIs → ℕ
-all_sent outs = total (λ (out : LaneOutIs). length out.sent) outs
+abbrev pub sent_in_all : List LaneOutIs → ℕ
+sent_in_all outs = sum_each (λ (out : LaneOutIs). length out.sent) outs
 
 -- only the memory of the lane may differ
 abbrev pub SameButMemory : LaneOutIs → LaneOutIs → Type 0
@@ -111,8 +111,8 @@ abbrev pub Reserved : ℕ → LaneOutIs → LaneOutIs → Type 0
 Reserved more a b = (b ≡ record a { memory = b.memory }) × (length b.waiting + more ≤ b.memory)
 
 -- there is memory for this many further waiting items
-abbrev pub HasRoom : ℕ → LaneOutIs → Type 0
-HasRoom more out = length out.waiting + more ≤ out.memory
+abbrev pub HasRoomFor : ℕ → LaneOutIs → Type 0
+HasRoomFor more out = length out.waiting + more ≤ out.memory
 
 -- these items wait behind the earlier ones
 abbrev pub Appended : (LaneOutIs → List Item) → LaneOutIs → LaneOutIs → Type 0

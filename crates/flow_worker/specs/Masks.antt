@@ -7,7 +7,7 @@ use Rattle.marker_align.specs.declared.held.Hand.{Hand}
 use Rattle.marker_align.specs.declared.held.Hand.TheVariants.{Empty, Holds}
 use Rattle.tuple_trace.specs.declared.tuple.Item.TheVariants.{Carry}
 use Rattle.tuple_trace.specs.declared.tuple.Tuple.{Tuple}
-use Rattle.flow_worker.specs.Pairs.{Each}
+use Rattle.flow_worker.specs.Pairs.{EachOne}
 use Rattle.flow_worker.specs.Endpoints.{Filled, Flushed, LaneInIs, LaneOutIs, is_waiting}
 use Rattle.marker_align.specs.declared.limits.TheConstants.{LANE_SET_BITS, MAX_LANES_IN}
 
@@ -18,12 +18,12 @@ passes p (x ∷ more) zero = p x
 passes p (x ∷ more) (suc k) = passes p more k
 
 -- nothing is in hand
-abbrev pub is_empty : Hand → Bool
-is_empty Empty = true
-is_empty (Holds item) = false
+abbrev pub is_empty_hand : Hand → Bool
+is_empty_hand Empty = true
+is_empty_hand (Holds item) = false
 
 abbrev pub has_empty : LaneInIs → Bool
-has_empty a = is_empty a.hand
+has_empty a = is_empty_hand a.hand
 
 abbrev pub has_tuple : LaneInIs → Bool
 has_tuple a = is_tuple a.hand
@@ -58,7 +58,7 @@ IsFedBy newest a = (tuple : Tuple) → a.hand ≡ Holds (Carry tuple) → tuple.
 pub record AreMasks (empty tuples newest : ℕ) (ins : List LaneInIs) : Type 0 where
   pub empty_is : IsMaskOf has_empty empty ins
   pub tuples_is : IsMaskOf has_tuple tuples ins
-  pub newest_is : Each (IsFedBy newest) ins
+  pub newest_is : EachOne (IsFedBy newest) ins
   pub few : length ins ≤ MAX_LANES_IN
 
 -- of the first 128 places, the mask has all on which an item waits
@@ -70,7 +70,7 @@ IsMarkOf mask outs =
 -- lane has memory
 pub record AreMarked (waiting room : ℕ) (outs : List LaneOutIs) : Type 0 where
   pub waiting_is : IsMarkOf waiting outs
-  pub room_is : Each (λ (out : LaneOutIs). room ≤ out.memory) outs
+  pub room_is : EachOne (λ (out : LaneOutIs). room ≤ out.memory) outs
 
 -- the place is in the mask or out of it now; all others are as before
 abbrev pub IsMaskWith : ℕ → Bool → ℕ → ℕ → Type 0

@@ -12,7 +12,7 @@ use Rattle.flow_model.specs.Lanes.{lanes_in, out_numbers}
 use Rattle.flow_model.specs.NewEndpoint.{IsNewEndpoint}
 use Rattle.flow_model.specs.SetupView.{SetupView}
 use Rattle.flow_model.specs.Workers.{nth_worker}
-use Rattle.flow_worker.specs.Pairs.{Each}
+use Rattle.flow_worker.specs.Pairs.{EachOne}
 use Rattle.flow_worker.specs.Endpoints.{LaneInIs, LaneOutIs}
 use Rattle.flow_worker.specs.declared.worker.Beginning.{Beginning}
 use Rattle.flow_worker.specs.declared.worker.WorkerStart.{WorkerStart}
@@ -47,9 +47,9 @@ pub record AreNewEndpoints (job : JobView) (worker : ℕ) (ins outs : List Endpo
   pub graph : Graph
   pub graph_is : IsGraphOf job graph
   pub ins_are : map (λ (end : EndpointIs). end.number) ins ≡ lanes_in job worker
-  pub new_in : Each (IsNewEndpoint job graph) ins
+  pub new_in : EachOne (IsNewEndpoint job graph) ins
   pub outs_are : map (λ (end : EndpointIs). end.number) outs ≡ out_numbers job worker
-  pub new_out : Each (IsNewEndpoint job graph) outs
+  pub new_out : EachOne (IsNewEndpoint job graph) outs
 
 -- a beginning has this start of a worker
 pub record IsStartOf (begin : Begin) (start : WorkerStart) : Type 0 where

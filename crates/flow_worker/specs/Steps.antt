@@ -18,7 +18,7 @@ use Rattle.flow_model.specs.Lanes.{lanes}
 use Rattle.flow_model.specs.declared.topology.Lane.{Lane}
 use Rattle.flow_model.specs.SetupView.{SetupView, Worker as WorkerOf}
 use Rattle.flow_model.specs.Replay.{StateView, Put, after, items_on, puts}
-use Rattle.flow_model.specs.Requests.{change_of, func_with}
+use Rattle.flow_model.specs.Requests.{change_by, func_with}
 use Rattle.flow_model.specs.declared.topology.OutEdge.{OutEdge}
 use Rattle.flow_worker.specs.Pairs.{EachPair}
 use Rattle.flow_worker.specs.Endpoints.{Filled, Flushed, Gains, LaneInIs, LaneOutIs, SameButMemory}
@@ -72,8 +72,8 @@ pub record HasTurned (setup : SetupView) (due : Due) (w v : WorkerIs) : Type 0 w
   pub ins : v.ins ≡ emptied due.lanes 0 w.ins
   pub outs : EachPair (Gains (marker_on setup due.request due.cover)) w.outs v.outs
   pub func : (func : Func) → func_in setup w.node w.in_force ≡ Some func →
-      func_in setup w.node v.in_force ≡ Some (func_with (change_of setup due.request w.node) func)
-  pub counts : v.counts ≡ counts_with (change_of setup due.request w.node) w.counts
+      func_in setup w.node v.in_force ≡ Some (func_with (change_by setup due.request w.node) func)
+  pub counts : v.counts ≡ counts_with (change_by setup due.request w.node) w.counts
   pub last : v.last ≡ due.request
   pub later : IsDueAfter setup w.node (edges_in setup.job w.number) due.request v.due
   pub turned : v.owner.turned ≡ w.owner.turned + 1

@@ -16,8 +16,9 @@ use Rattle.sink_journal.specs.declared.journal.Entry.TheVariants.{Met, Turned}
 use Rattle.flow_model.specs.Agreement.{Agreement}
 use Rattle.flow_model.specs.Begin.{Begin}
 use Rattle.flow_model.specs.SetupView.{SetupView, Worker as WorkerOf}
-use Rattle.flow_worker.specs.Pairs.{Each, EachPair}
-use Rattle.flow_worker.specs.Endpoints.{LaneInIs, LaneOutIs, SameIn, SameOut, all_sent, all_taken}
+use Rattle.flow_worker.specs.Pairs.{EachOne, EachPair}
+use Rattle.flow_worker.specs.Endpoints.{LaneInIs, LaneOutIs, SameIn, SameOut, sent_in_all}
+use Rattle.flow_worker.specs.Endpoints.{all_taken}
 use Rattle.flow_worker.specs.Endpoints.{planned}
 use Rattle.flow_worker.specs.Worker.{IsWorker, WorkerIs, hands}
 use Rattle.flow_worker.specs.Steps.{HasClosed, HasProcessed, HasTurned, MemoryOnly, ended_entries}
@@ -78,7 +79,7 @@ NotEarly w v = (r : ℕ) (due : Due) → Contains (added w v) (Turned r) →
 
 -- a number that rises with each item that is sent or taken, and with each entry
 abbrev pub moves : WorkerIs → ℕ
-moves w = length w.journal + (all_taken w.ins + all_sent w.outs)
+moves w = length w.journal + (all_taken w.ins + sent_in_all w.outs)
 
 abbrev pub DryWhereEmpty : LaneInIs → LaneInIs → Type 0
 DryWhereEmpty a b = b.hand ≡ Empty → Rose a.dry b.dry
@@ -87,7 +88,7 @@ abbrev pub FullWhereWaiting : LaneOutIs → LaneOutIs → Type 0
 FullWhereWaiting a b = (b.waiting ≡ []) ⊎ Rose a.full b.full
 
 abbrev pub NothingWaits : WorkerIs → Type 0
-NothingWaits w = Each (λ (out : LaneOutIs). out.waiting ≡ []) w.outs
+NothingWaits w = EachOne (λ (out : LaneOutIs). out.waiting ≡ []) w.outs
 
 -- the worker has closed, and nothing waits
 abbrev pub IsDone : WorkerIs → Type 0

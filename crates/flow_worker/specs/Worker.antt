@@ -17,12 +17,12 @@ use Rattle.flow_model.specs.Law.{Progress, initial, progress_after}
 use Rattle.flow_model.specs.declared.topology.Lane.{Lane}
 use Rattle.flow_model.specs.SetupView.{SetupView, Worker}
 use Rattle.flow_model.specs.Points.{turned}
-use Rattle.flow_model.specs.Replay.{StateView, after_all, sent, shown}
+use Rattle.flow_model.specs.Replay.{StateView, after_all, items_sent, shown}
 use Rattle.flow_model.specs.Run.{IsFinishedFrom, IsLawfulFrom}
 use Rattle.flow_model.specs.Duties.{duties}
 use Rattle.flow_model.specs.Workers.{workers_in}
 use Rattle.flow_model.specs.declared.in_force.InForce.{InForce}
-use Rattle.flow_worker.specs.Pairs.{Each}
+use Rattle.flow_worker.specs.Pairs.{EachOne}
 use Rattle.flow_worker.specs.Endpoints.{LaneInIs, IsSteadyIn, IsSteadyOut, LaneOutIs, in_hand}
 use Rattle.flow_worker.specs.Endpoints.{planned}
 use Rattle.flow_model.specs.Dues.{AreDues, IsDueOf}
@@ -56,14 +56,14 @@ abbrev pub hands : WorkerIs → List Hand
 hands w = map (λ (a : LaneInIs). a.hand) w.ins
 
 -- the numbers of some lanes in, and the edges of them
-abbrev pub numbers_in : List LaneInIs → List ℕ
-numbers_in ins = map (λ (a : LaneInIs). a.number) ins
+abbrev pub lane_numbers_in : List LaneInIs → List ℕ
+lane_numbers_in ins = map (λ (a : LaneInIs). a.number) ins
 
 abbrev pub edges_of : List LaneInIs → List ℕ
 edges_of ins = map (λ (a : LaneInIs). a.edge) ins
 
-abbrev pub numbers_out : List LaneOutIs → List ℕ
-numbers_out outs = map (λ (out : LaneOutIs). out.number) outs
+abbrev pub lane_numbers_out : List LaneOutIs → List ℕ
+lane_numbers_out outs = map (λ (out : LaneOutIs). out.number) outs
 
 -- a worker of the node, out of which lead the lanes with these numbers
 pub record IsSenderAt (job : JobView) (node : ℕ) (who : Worker) (numbers : List ℕ) : Type 0 where
@@ -101,12 +101,12 @@ pub record IsPlaced (setup : SetupView) (who : Worker) (w : WorkerIs) : Type 0 w
   pub place_is : w.place ≡ who.place
   pub graph : Graph
   pub graph_is : IsGraphOf setup.job graph
-  pub ins_are : numbers_in w.ins ≡ lanes_in setup.job w.number
-  pub ends_in : Each (IsEndpointIn setup graph) w.ins
+  pub ins_are : lane_numbers_in w.ins ≡ lanes_in setup.job w.number
+  pub ends_in : EachOne (IsEndpointIn setup graph) w.ins
   pub some_in : w.next < length w.ins
   pub few_in : length w.ins ≤ MAX_LANES_IN
-  pub outs_are : numbers_out w.outs ≡ out_numbers setup.job w.number
-  pub ends_out : Each (IsEndpointOut setup graph w.node) w.outs
+  pub outs_are : lane_numbers_out w.outs ≡ out_numbers setup.job w.number
+  pub ends_out : EachOne (IsEndpointOut setup graph w.node) w.outs
   pub room_in : length w.ins ≤ w.spare_in
   pub room_out : length w.outs ≤ w.spare_out
 
@@ -127,7 +127,7 @@ ShowsTaken setup journal a = a.taken ≡ shown setup a.number journal ++ in_hand
 abbrev pub Sends : SetupView → Begin → Worker → Counts → List Entry → LaneOutIs → Type 0
 Sends setup begin who counts journal out =
     (lane : Lane) → slice_get (lanes setup.job) out.number ≡ Some lane →
-    planned out ≡ sent setup who (view_at setup begin.turned who counts) lane journal
+    planned out ≡ items_sent setup who (view_at setup begin.turned who counts) lane journal
 
 -- the law of a worker of a setup, from a beginning on
 pub record IsWorker (setup : SetupView) (begin : Begin) (w : WorkerIs) : Type 0 where
@@ -144,11 +144,11 @@ pub record IsWorker (setup : SetupView) (begin : Begin) (w : WorkerIs) : Type 0 
   pub last_is : w.last ≡ (view_now setup begin who begun w.journal).last
   -- third, what was taken from each lane is what the journal shows followed by what is in hand,
   -- and is steady
-  pub takes : Each (ShowsTaken setup w.journal) w.ins
-  pub steady_in : Each IsSteadyIn w.ins
+  pub takes : EachOne (ShowsTaken setup w.journal) w.ins
+  pub steady_in : EachOne IsSteadyIn w.ins
   -- fourth, what was sent on each lane and what waits is what the replay sends, and is steady
-  pub sends : Each (Sends setup begin who begun w.journal) w.outs
-  pub steady_out : Each IsSteadyOut w.outs
+  pub sends : EachOne (Sends setup begin who begun w.journal) w.outs
+  pub steady_out : EachOne IsSteadyOut w.outs
   -- fifth, the owner has acknowledged as many turns as the journal has; the next due is that of the
   -- law of a journal
   pub turned_is : w.owner.turned ≡ length (turned w.journal)
@@ -158,4 +158,4 @@ pub record IsWorker (setup : SetupView) (begin : Begin) (w : WorkerIs) : Type 0 
   -- before it has closed no lane has ended; then the journal is finished, and the hands are empty
   pub unended : w.closed ≡ false → (progress_now setup begin who w.journal).ended ≡ []
   pub finished : w.closed ≡ true → IsFinishedFrom setup begin who w.journal
-  pub put_down : w.closed ≡ true → Each (λ (a : LaneInIs). a.hand ≡ Empty) w.ins
+  pub put_down : w.closed ≡ true → EachOne (λ (a : LaneInIs). a.hand ≡ Empty) w.ins

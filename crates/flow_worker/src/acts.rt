@@ -6,8 +6,8 @@ ghost use Rattle.marker_align.specs.declared.held.Hand.TheVariants.{Empty, Holds
 ghost use Rattle.sink_journal.specs.declared.journal.Entry.TheVariants.{Marked, Met};
 ghost use Rattle.tuple_trace.specs.declared.tuple.Item.TheVariants.{Carry, Mark, Last};
 ghost use Rattle.tuple_trace.specs.declared.tuple.Tuple.{Tuple as TupleIs};
-ghost use Rattle.flow_worker.specs.Pairs.{Each, EachPair};
-ghost use Rattle.flow_worker.specs.Endpoints.{Appended, HasRoom, LaneInIs, LaneOutIs};
+ghost use Rattle.flow_worker.specs.Pairs.{EachOne, EachPair};
+ghost use Rattle.flow_worker.specs.Endpoints.{Appended, HasRoomFor, LaneInIs, LaneOutIs};
 ghost use Rattle.flow_worker.specs.Steps.{HasTuple, all_emptied, emptied, ended_entries, laid_down};
 ghost use Rattle.flow_worker.specs.Steps.{marked_entries};
 
@@ -79,8 +79,8 @@ fn push_marker<L: Lanes>(out: &mut LaneOut<L>, is_covered: bool, due: &Due)
 
 /// Adds the marker of the due to the waiting items of each lane whose edge is in the mask.
 pub fn push_markers<L: Lanes>(outs: &mut [LaneOut<L>], edges: u128, due: &Due)
-    requires room { Each (HasRoom 1) outs.old }
-    requires edges { Each (λ (out : LaneOutIs). out.edge < MAX_EDGES) outs.old }
+    requires room { EachOne (HasRoomFor 1) outs.old }
+    requires edges { EachOne (λ (out : LaneOutIs). out.edge < MAX_EDGES) outs.old }
     ensures { EachPair (Appended (λ out. if has edges out.edge
         then Mark due.now.request due.now.cover ∷ [] else [])) outs.old outs.new }
 {
@@ -106,7 +106,7 @@ pub fn note_ends<L: Lanes>(ins: &mut [LaneIn<L>], journal: &mut Reserved<Entry>)
 
 /// Adds `Last` to the waiting items of each lane out.
 pub fn push_ends<L: Lanes>(outs: &mut [LaneOut<L>])
-    requires room { Each (HasRoom 1) outs.old }
+    requires room { EachOne (HasRoomFor 1) outs.old }
     ensures { EachPair (Appended (λ out. Last ∷ [])) outs.old outs.new }
 {
     for out in outs {

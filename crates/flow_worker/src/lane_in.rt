@@ -1,7 +1,7 @@
 ghost use Rattle.std.specs.Prelude.{◌≡◌, ◌≢◌, ℕ, ◌+◌, ◌<◌, ◌≤◌, ◌↔◌, [], IsTrue, false, length};
 ghost use Rattle.marker_align.specs.declared.held.Hand.TheVariants.{Empty};
 ghost use Rattle.flow_worker.specs.Endpoints.{Filled, lane_in_of};
-ghost use Rattle.flow_worker.specs.Masks.{is_empty};
+ghost use Rattle.flow_worker.specs.Masks.{is_empty_hand};
 ghost use Rattle.flow_worker.specs.Parts.{endpoint_in};
 
 use lane_core::{Lanes, Rx};
@@ -69,7 +69,7 @@ impl<L: Lanes> LaneIn<L> {
     pub fn fill(&mut self, need: &mut L::Need) -> bool
         ensures filled { Filled self.old self.new }
         ensures moved { IsTrue result ↔ (length self.old.taken < length self.new.taken) }
-        ensures holds { IsTrue result → is_empty self.new.hand ≡ false }
+        ensures holds { IsTrue result → is_empty_hand self.new.hand ≡ false }
         ensures kept { result ≡ false → self.new.hand ≡ self.old.hand }
     {
         if let Hand::Holds(_) = &self.hand {

@@ -1,8 +1,9 @@
 ghost use Rattle.std.specs.Prelude.{◌≡◌, ℕ, ◌+◌, ◌<◌, ◌≤◌, [], ◌∷◌, ◌++◌, length, OnOk, OnErr};
 ghost use Rattle.std.specs.Prelude.{◌↔◌, IsTrue};
-ghost use Rattle.flow_worker.specs.Pairs.{Each, EachPair};
-ghost use Rattle.flow_worker.specs.Endpoints.{Flushed, HasRoom, IsSteadyOut, LaneOutIs, Reserved};
-ghost use Rattle.flow_worker.specs.Endpoints.{SameButMemory, all_sent, is_waiting, lane_out_of};
+ghost use Rattle.flow_worker.specs.Pairs.{EachOne, EachPair};
+ghost use Rattle.flow_worker.specs.Endpoints.{Flushed, HasRoomFor, IsSteadyOut, LaneOutIs};
+ghost use Rattle.flow_worker.specs.Endpoints.{Reserved};
+ghost use Rattle.flow_worker.specs.Endpoints.{SameButMemory, sent_in_all, is_waiting, lane_out_of};
 ghost use Rattle.flow_worker.specs.Parts.{endpoint_out};
 
 use lane_core::{Lanes, Tx};
@@ -57,7 +58,7 @@ impl<L: Lanes> LaneOut<L> {
 
     /// Takes memory for `more` further waiting items.
     pub fn reserve(&mut self, more: usize) -> Result<(), NoMemory>
-        ensures ok { OnOk result (HasRoom more self.new) }
+        ensures ok { OnOk result (HasRoomFor more self.new) }
         ensures same { SameButMemory self.old self.new }
     {
         if self.waiting.reserve(more).is_err() {
@@ -107,9 +108,9 @@ impl<L: Lanes> LaneOut<L> {
 /// Puts waiting items, lane by lane, until the lane is full or none waits.
 /// Returns whether it put one.
 pub fn flush_all<L: Lanes>(outs: &mut [LaneOut<L>], need: &mut L::Need) -> bool
-    requires steady { Each IsSteadyOut outs.old }
+    requires steady { EachOne IsSteadyOut outs.old }
     ensures flushed { EachPair Flushed outs.old outs.new }
-    ensures moved { IsTrue result ↔ (all_sent outs.old < all_sent outs.new) }
+    ensures moved { IsTrue result ↔ (sent_in_all outs.old < sent_in_all outs.new) }
 {
     let mut moved = false;
     for out in outs {

@@ -9,7 +9,7 @@ ghost use Rattle.tuple_trace.specs.declared.tuple.Item.TheVariants.{Carry};
 ghost use Rattle.tuple_trace.specs.declared.tuple.Tuple.{Tuple as TupleIs};
 ghost use Rattle.flow_worker.specs.Endpoints.{Filled, LaneInIs, all_taken};
 ghost use Rattle.flow_worker.specs.Masks.{FilledAt, IsMaskOf, has_empty, issued_of};
-ghost use Rattle.flow_worker.specs.Pairs.{Each, EachPair};
+ghost use Rattle.flow_worker.specs.Pairs.{EachOne, EachPair};
 ghost use Rattle.flow_worker.specs.Steps.{HasTuple, all_emptied, emptied, ended_entries, laid_down};
 ghost use Rattle.flow_worker.specs.Steps.{marked_entries};
 
@@ -51,7 +51,7 @@ impl<L: Lanes> LanesIn<L> {
     /// Keeps new lanes. Takes no memory.
     pub fn new(lanes: Vec<LaneIn<L>>) -> LanesIn<L>
         requires few { length lanes.items ≤ MAX_LANES_IN }
-        requires hands { Each (λ (a : LaneInIs). a.hand ≡ Empty) lanes.items }
+        requires hands { EachOne (λ (a : LaneInIs). a.hand ≡ Empty) lanes.items }
         ensures { result ≡ lanes.items }
     {
         let empty = all_places(lanes.len());

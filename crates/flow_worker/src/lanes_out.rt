@@ -4,10 +4,11 @@ ghost use Rattle.std.specs.Prelude.{◌↔◌, if◌then◌else◌, length, ◌+
 ghost use Rattle.std.specs.List.{list_any};
 ghost use Rattle.flow_dag.specs.Masks.{has};
 ghost use Rattle.tuple_trace.specs.declared.tuple.Item.TheVariants.{Mark, Last};
-ghost use Rattle.flow_worker.specs.Endpoints.{Appended, Flushed, HasRoom, IsSteadyOut, LaneOutIs};
-ghost use Rattle.flow_worker.specs.Endpoints.{Reserved, SameButMemory, all_sent, is_waiting};
+ghost use Rattle.flow_worker.specs.Endpoints.{Appended, Flushed, HasRoomFor, IsSteadyOut};
+ghost use Rattle.flow_worker.specs.Endpoints.{LaneOutIs};
+ghost use Rattle.flow_worker.specs.Endpoints.{Reserved, SameButMemory, sent_in_all, is_waiting};
 ghost use Rattle.flow_worker.specs.Masks.{FlushedAt, IsMarkOf};
-ghost use Rattle.flow_worker.specs.Pairs.{Each, EachPair};
+ghost use Rattle.flow_worker.specs.Pairs.{EachOne, EachPair};
 ghost use Rattle.flow_worker.specs.Steps.{PushedAt};
 
 use crate::acts::{push_ends, push_markers};
@@ -45,7 +46,7 @@ impl<L: Lanes> Model for LanesOut<L> {
 impl<L: Lanes> LanesOut<L> {
     /// Keeps new lanes. Takes no memory.
     pub fn new(lanes: Vec<LaneOut<L>>) -> LanesOut<L>
-        requires { Each (λ (out : LaneOutIs). out.waiting ≡ []) lanes.items }
+        requires { EachOne (λ (out : LaneOutIs). out.waiting ≡ []) lanes.items }
         ensures { result ≡ lanes.items }
     {
         LanesOut {
@@ -76,9 +77,9 @@ impl<L: Lanes> LanesOut<L> {
     /// Puts waiting items, lane by lane, until the lane is full or none waits.
     /// Returns whether it put one.
     pub fn flush(&mut self, need: &mut L::Need) -> bool
-        requires steady { Each IsSteadyOut self.old }
+        requires steady { EachOne IsSteadyOut self.old }
         ensures flushed { EachPair Flushed self.old self.new }
-        ensures moved { IsTrue result ↔ (all_sent self.old < all_sent self.new) }
+        ensures moved { IsTrue result ↔ (sent_in_all self.old < sent_in_all self.new) }
     {
         if self.len() == 1 {
             return self.flush_at(0, need);
@@ -89,9 +90,9 @@ impl<L: Lanes> LanesOut<L> {
     // Apart, so that a worker with one lane doesn't pay for masks.
     #[inline(never)]
     fn flush_marked(&mut self, need: &mut L::Need) -> bool
-        requires steady { Each IsSteadyOut self.old }
+        requires steady { EachOne IsSteadyOut self.old }
         ensures flushed { EachPair Flushed self.old self.new }
-        ensures moved { IsTrue result ↔ (all_sent self.old < all_sent self.new) }
+        ensures moved { IsTrue result ↔ (sent_in_all self.old < sent_in_all self.new) }
     {
         if self.len() > LANE_SET_BITS {
             return self.flush_each(need);
@@ -123,9 +124,9 @@ impl<L: Lanes> LanesOut<L> {
     #[inline(always)]
     fn flush_at(&mut self, place: u32, need: &mut L::Need) -> bool
         requires within { place < length self.old }
-        requires steady { Each IsSteadyOut self.old }
+        requires steady { EachOne IsSteadyOut self.old }
         ensures flushed { FlushedAt place self.old self.new }
-        ensures moved { IsTrue result ↔ (all_sent self.old < all_sent self.new) }
+        ensures moved { IsTrue result ↔ (sent_in_all self.old < sent_in_all self.new) }
     {
         let lane = &mut self.lanes[place as usize];
         let moved = lane.flush(need);
@@ -136,9 +137,9 @@ impl<L: Lanes> LanesOut<L> {
     }
 
     fn flush_each(&mut self, need: &mut L::Need) -> bool
-        requires steady { Each IsSteadyOut self.old }
+        requires steady { EachOne IsSteadyOut self.old }
         ensures flushed { EachPair Flushed self.old self.new }
-        ensures moved { IsTrue result ↔ (all_sent self.old < all_sent self.new) }
+        ensures moved { IsTrue result ↔ (sent_in_all self.old < sent_in_all self.new) }
     {
         self.room = 0;
         self.waiting = u128::MAX;
@@ -172,7 +173,7 @@ impl<L: Lanes> LanesOut<L> {
     /// Adds an item behind the waiting ones of the lane at a place, in reserved memory.
     pub fn push_at(&mut self, place: usize, item: Item)
         requires within { place < length self.old }
-        requires room { (d : LaneOutIs) → HasRoom 1 (get_or self.old place d) }
+        requires room { (d : LaneOutIs) → HasRoomFor 1 (get_or self.old place d) }
         ensures { PushedAt place item self.old self.new }
     {
         self.lanes[place].push(item);
@@ -185,8 +186,8 @@ impl<L: Lanes> LanesOut<L> {
 
     /// Adds the marker of the due to the waiting items of each lane whose edge is in the mask.
     pub fn push_markers(&mut self, edges: u128, due: &Due)
-        requires room { Each (HasRoom 1) self.old }
-        requires edges { Each (λ (out : LaneOutIs). out.edge < MAX_EDGES) self.old }
+        requires room { EachOne (HasRoomFor 1) self.old }
+        requires edges { EachOne (λ (out : LaneOutIs). out.edge < MAX_EDGES) self.old }
         ensures { EachPair (Appended (λ out. if has edges out.edge
             then Mark due.now.request due.now.cover ∷ [] else [])) self.old self.new }
     {
@@ -197,7 +198,7 @@ impl<L: Lanes> LanesOut<L> {
 
     /// Adds `Last` to the waiting items of each lane.
     pub fn push_ends(&mut self)
-        requires room { Each (HasRoom 1) self.old }
+        requires room { EachOne (HasRoomFor 1) self.old }
         ensures { EachPair (Appended (λ out. Last ∷ [])) self.old self.new }
     {
         self.room = 0;

@@ -3,7 +3,7 @@ ghost use Rattle.std.specs.Prelude.{◌≡◌, ◌<◌, ℕ, List, ◌∷◌, So
 ghost use Rattle.marker_align.specs.declared.decision.Due.{Due as DueIs};
 ghost use Rattle.flow_model.specs.Begin.{Begin};
 ghost use Rattle.flow_model.specs.Setup.{setup_view};
-ghost use Rattle.flow_worker.specs.Pairs.{Each};
+ghost use Rattle.flow_worker.specs.Pairs.{EachOne};
 ghost use Rattle.flow_worker.specs.Turning.{AreTurns, Polled, TurnsNext};
 ghost use Rattle.flow_worker.specs.Worker.{IsWorker, WorkerIs};
 
@@ -17,5 +17,5 @@ pub fn control_overtakes_tuples(setup: &Setup)
         IsWorker (setup_view setup.now) begin w →
         AreTurns (setup_view setup.now) w (v ∷ later) →
         Polled w v n → w.due ≡ Some due → due.head ≡ true → w.owner.turned < n →
-        Each (TurnsNext due.request w) (v ∷ later) }
+        EachOne (TurnsNext due.request w) (v ∷ later) }
 {}

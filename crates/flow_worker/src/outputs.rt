@@ -4,10 +4,10 @@ ghost use Rattle.jobs.specs.Job.{job_view};
 ghost use Rattle.flow_model.specs.SetupView.{Worker as WorkerOfJob};
 ghost use Rattle.flow_model.specs.Replay.{put_out};
 ghost use Rattle.flow_model.specs.Topology.{out_edges};
-ghost use Rattle.flow_worker.specs.Pairs.{Each, EachPair};
-ghost use Rattle.flow_worker.specs.Endpoints.{Appended, HasRoom, LaneOutIs};
+ghost use Rattle.flow_worker.specs.Pairs.{EachOne, EachPair};
+ghost use Rattle.flow_worker.specs.Endpoints.{Appended, HasRoomFor, LaneOutIs};
 ghost use Rattle.flow_worker.specs.Steps.{items_at, place_from};
-ghost use Rattle.flow_worker.specs.Worker.{IsSenderAt, numbers_out};
+ghost use Rattle.flow_worker.specs.Worker.{IsSenderAt, lane_numbers_out};
 
 use crate::lanes_out::LanesOut;
 use flow_model::OutEdge;
@@ -60,12 +60,12 @@ pub fn enqueue_outputs<L: Lanes>(
     made: &mut Outs,
 )
     requires who { (who : WorkerOfJob)
-        × IsSenderAt (job_view job.now) node who (numbers_out outs.old) }
+        × IsSenderAt (job_view job.now) node who (lane_numbers_out outs.old) }
     requires edges { edges.now ≡ out_edges (job_view job.now) node }
-    requires room { Each (HasRoom (length made.old)) outs.old }
+    requires room { EachOne (HasRoomFor (length made.old)) outs.old }
     ensures emptied { made.new ≡ [] }
     ensures outs { (who : WorkerOfJob) → IsSenderAt (job_view job.now) node who
-        (numbers_out outs.old)
+        (lane_numbers_out outs.old)
         → EachPair (Appended (λ (out : LaneOutIs). items_at (job_view job.now)
         (map (put_out (job_view job.now) who) made.old) out.number)) outs.old outs.new }
 {

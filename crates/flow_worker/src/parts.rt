@@ -5,7 +5,7 @@ ghost use Rattle.marker_align.specs.declared.held.Hand.TheVariants.{Empty};
 ghost use Rattle.flow_model.specs.Lanes.{lanes};
 ghost use Rattle.flow_model.specs.Setup.{setup_view};
 ghost use Rattle.flow_worker.specs.Endpoints.{LaneInIs, LaneOutIs};
-ghost use Rattle.flow_worker.specs.Pairs.{Each};
+ghost use Rattle.flow_worker.specs.Pairs.{EachOne};
 ghost use Rattle.flow_worker.specs.Parts.{endpoint_in, endpoint_out};
 ghost use Rattle.flow_worker.specs.Worker.{IsOnLane};
 
@@ -99,7 +99,7 @@ pub fn part_ins<L: Lanes>(ins: Vec<LaneIn<L>>, spare: Vec<L::Rx>) -> Vec<L::Rx>
 pub fn part_outs<L: Lanes>(outs: Vec<LaneOut<L>>, spare: Vec<L::Tx>) -> Vec<L::Tx>
     requires empty { spare.items ≡ [] }
     requires room { length outs.items ≤ vec_capacity spare }
-    requires done { Each (λ (out : LaneOutIs). out.waiting ≡ []) outs.items }
+    requires done { EachOne (λ (out : LaneOutIs). out.waiting ≡ []) outs.items }
     ensures { map L.Tx.state result.items ≡ map endpoint_out outs.items }
 {
     let mut ends = spare;
@@ -120,11 +120,11 @@ pub fn new_ins<L: Lanes>(
     requires empty { room.items ≡ [] }
     requires room { length ends.items ≤ vec_capacity room }
     requires numbers { map (λ x. (L.Rx.state x).number) ends.items ≡ numbers.now }
-    requires there { Each (λ n. n < length (lanes (setup_view setup.now).job)) numbers.now }
+    requires there { EachOne (λ n. n < length (lanes (setup_view setup.now).job)) numbers.now }
     ensures ends { map endpoint_in result.items ≡ map L.Rx.state ends.items }
-    ensures edges { Each (λ (a : LaneInIs). IsOnLane (setup_view setup.now).job a.number a.edge)
+    ensures edges { EachOne (λ (a : LaneInIs). IsOnLane (setup_view setup.now).job a.number a.edge)
         result.items }
-    ensures hands { Each (λ (a : LaneInIs). a.hand ≡ Empty) result.items }
+    ensures hands { EachOne (λ (a : LaneInIs). a.hand ≡ Empty) result.items }
 {
     let mut ins = room;
     for end in ends {
@@ -147,12 +147,12 @@ pub fn new_outs<L: Lanes>(
     requires empty { room.items ≡ [] }
     requires room { length ends.items ≤ vec_capacity room }
     requires numbers { map (λ x. (L.Tx.state x).number) ends.items ≡ numbers.now }
-    requires there { Each (λ n. n < length (lanes (setup_view setup.now).job)) numbers.now }
+    requires there { EachOne (λ n. n < length (lanes (setup_view setup.now).job)) numbers.now }
     ensures ends { map endpoint_out result.items ≡ map L.Tx.state ends.items }
-    ensures edges { Each (λ (out : LaneOutIs). IsOnLane (setup_view setup.now).job out.number
+    ensures edges { EachOne (λ (out : LaneOutIs). IsOnLane (setup_view setup.now).job out.number
         out.edge)
         result.items }
-    ensures waiting { Each (λ (out : LaneOutIs). out.waiting ≡ []) result.items }
+    ensures waiting { EachOne (λ (out : LaneOutIs). out.waiting ≡ []) result.items }
 {
     let mut outs = room;
     for end in ends {

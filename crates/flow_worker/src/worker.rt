@@ -6,8 +6,8 @@ ghost use Rattle.marker_align.specs.Decision.{decided};
 ghost use Rattle.flow_model.specs.Begin.{Begin, at_first};
 ghost use Rattle.flow_model.specs.Setup.{setup_view};
 ghost use Rattle.flow_model.specs.Workers.{workers_in};
-ghost use Rattle.flow_worker.specs.Endpoints.{IsSteadyOut, all_sent, all_taken, is_waiting};
-ghost use Rattle.flow_worker.specs.Pairs.{Each};
+ghost use Rattle.flow_worker.specs.Endpoints.{IsSteadyOut, sent_in_all, all_taken, is_waiting};
+ghost use Rattle.flow_worker.specs.Pairs.{EachOne};
 ghost use Rattle.flow_worker.specs.Parts.{AreNewEndpoints, IsStartOf, IsStateAt, endpoint_in};
 ghost use Rattle.flow_worker.specs.Parts.{endpoint_out};
 ghost use Rattle.flow_worker.specs.Steps.{PollsOnly, PutsOnly, TakesOnly};
@@ -323,9 +323,9 @@ impl<L: Lanes> Worker<L> {
     }
 
     fn put_waiting(&mut self, need: &mut L::Need) -> bool
-        requires steady { Each IsSteadyOut self.old.outs }
+        requires steady { EachOne IsSteadyOut self.old.outs }
         ensures puts { PutsOnly self.old self.new }
-        ensures moved { IsTrue result ↔ (all_sent self.old.outs < all_sent self.new.outs) }
+        ensures moved { IsTrue result ↔ (sent_in_all self.old.outs < sent_in_all self.new.outs) }
     {
         self.outs.flush(need)
     }

@@ -1,6 +1,6 @@
-//! The program `fries`: it hands its words to [`fries_call::fries`], over the files and the standard
-//! output of the host, and ends with the status that it returns. What the status means is told on
-//! the standard error, in sentences.
+//! The program `fries`: it hands its words to [`fries_call::fries`], over the files and the
+//! standard output of the host, and ends with the status that it returns. What the status means is
+//! told on the standard error, in sentences.
 #![tactic(auto)]
 
 mod stream;

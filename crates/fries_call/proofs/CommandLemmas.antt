@@ -17,8 +17,8 @@ use Rattle.fries_lines.specs.declared.fault.Fault.TheVariants as fault
 use Rattle.fries_steps.specs.Effects.{FileText, IsExcused, PrintsFault}
 use Rattle.fries_steps.specs.FirstJob.{first_job}
 use Rattle.fries_steps.specs.Live.{live_fault, live_lines}
-use Rattle.fries_steps.specs.Outcomes.{EndsAfterRun, Stops}
-use Rattle.fries_steps.specs.Running.{files_of, made_lines, run_lines}
+use Rattle.fries_steps.specs.Outcomes.{EndsAfterRun, StopsFor}
+use Rattle.fries_steps.specs.Running.{files_written, made_lines, run_lines}
 use Rattle.fries_steps.specs.declared.answer.Answer.{Answer}
 use Rattle.fries_steps.proofs.FileLemmas.{done_or_excused, ran_or_excused}
 use Rattle.fries_call.specs.Check.{EndsCheck}
@@ -51,7 +51,7 @@ follows_first asked old between new answer ends prints =
       | inl s ↦ subst (λ (x : Answer). FollowsRowsThen job asked.payments (λ rows. IsDoneOrExcused old new x.fault) old new x.fault) (sym s.answer_is)
           (no_rows_then job asked.payments (λ rows. IsDoneOrExcused old new (Some s.why)) old between new s.why prints.shelf s.cause (λ rows excused. inr excused))
       | inr r ↦ rows_then job asked.payments (λ rows. IsDoneOrExcused old new answer.fault) old new answer.fault r.is_so.rows r.is_so.of_rows
-          (ran_or_excused (files_of asked.alerts None None r.done) (run_lines r.done) old between new answer.fault r.outcome prints)
+          (ran_or_excused (files_written asked.alerts None None r.done) (run_lines r.done) old between new answer.fault r.outcome prints)
     ]
 
 pub follows_plan : Excludes → HaveOneFault → (asked : PlanAsked) (old between new : World) (answer : Answer) → EndsPlan asked old between answer → PrintsFault answer.fault between new →
@@ -68,7 +68,7 @@ follows_plan excludes have asked old between new answer ends prints =
 
 -- a call that stopped before a run
 stops_then : Excludes → HaveOneFault → (plan : PlanAsked) (payments : Text) (Then : Option Fault → JobView → List Request → List Row → Type 0) (old between new : World) (answer : Answer) →
-    Stops (AreNoInputs old.shelf.files plan payments) old between answer → new.shelf ≡ between.shelf →
+    StopsFor (AreNoInputs old.shelf.files plan payments) old between answer → new.shelf ≡ between.shelf →
     ((why : Fault) (job : JobView) (requests : List Request) (rows : List Row) → IsExcused old new (Some why) → Then (Some why) job requests rows) → FollowsInputsThen plan payments (Then answer.fault) old new answer.fault
 stops_then excludes have plan payments Then old between new answer s same rest =
     subst (λ (x : Answer). FollowsInputsThen plan payments (Then x.fault) old new x.fault) (sym s.answer_is)
@@ -82,7 +82,7 @@ follows_run excludes have asked old between new answer ends prints =
       | inr r ↦
           let of = r.is_so in
           inputs_then excludes asked.plan asked.payments (λ job requests rows. IsDoneOrExcused old new answer.fault) old new answer.fault of.job of.requests of.rows of.of_files
-          (ran_or_excused (files_of asked.alerts (Some asked.audit) None r.done) (run_lines r.done) old between new answer.fault r.outcome prints)
+          (ran_or_excused (files_written asked.alerts (Some asked.audit) None r.done) (run_lines r.done) old between new answer.fault r.outcome prints)
     ]
 
 pub follows_save : Excludes → HaveOneFault → (asked : SaveAsked) (old between new : World) (answer : Answer) → EndsSave asked old between answer → PrintsFault answer.fault between new →
@@ -93,7 +93,7 @@ follows_save excludes have asked old between new answer ends prints =
       | inr r ↦
           let of = r.is_so in
           inputs_then excludes asked.run.plan asked.run.payments (λ job requests rows. IsDoneOrExcused old new answer.fault) old new answer.fault of.job of.requests of.rows of.of_files
-          (ran_or_excused (files_of asked.run.alerts (Some asked.run.audit) (Some asked.save) r.done) (run_lines r.done) old between new answer.fault r.outcome prints)
+          (ran_or_excused (files_written asked.run.alerts (Some asked.run.audit) (Some asked.save) r.done) (run_lines r.done) old between new answer.fault r.outcome prints)
     ]
 
 -- ---- runs with releases
@@ -121,7 +121,7 @@ follows_live excludes have asked was now old between new answer ends prints =
       | inr r ↦
           let of = r.is_so in
           inputs_then excludes asked.plan asked.payments (λ job requests rows. IsDoneLive was now old new answer.fault) old new answer.fault of.job of.requests of.rows of.of_files
-          (ran_live (files_of asked.alerts (Some asked.audit) None r.live.done) (live_lines r.live) was now old between new r.live.heard.failed r.written answer.fault r.fault_is of.run.heard.failed r.outcome prints)
+          (ran_live (files_written asked.alerts (Some asked.audit) None r.live.done) (live_lines r.live) was now old between new r.live.heard.failed r.written answer.fault r.fault_is of.run.heard.failed r.outcome prints)
     ]
 
 -- ---- rows that are made

@@ -28,7 +28,7 @@ use Rattle.flow_model.specs.Covers.{covers, plan_of}
 use Rattle.flow_model.specs.Record.{record_view}
 use Rattle.flow_model.specs.Requests.{changes}
 use Rattle.flow_model.specs.Setup.{setup_view}
-use Rattle.flow_model.specs.Feeding.{fed, fed_put, fed_puts, fed_tuple, feed_after, issued_after, row_at}
+use Rattle.flow_model.specs.Feeding.{fed, fed_put, fed_puts, fed_tuple, feed_after, issued_after, row_numbered}
 use Rattle.flow_model.specs.Replay.{items_on, marker_by, shown}
 use Rattle.flow_model.specs.Run.{IsRunFrom, ran_as}
 use Rattle.flow_model.specs.Whole.{after_turn, before_turn, meets_row, met_tuples}
@@ -40,8 +40,8 @@ use Rattle.payments.specs.Files.{Files}
 use Rattle.versions.specs.declared.in_order.Judged.{Judged}
 use Rattle.versions.specs.declared.request.Request.{Request}
 use Rattle.fries_words.specs.Asked.{FirstAsked}
-use Rattle.fries_call.specs.First.{IsFirstRun, TurnsAfterRow}
-use Rattle.fries_steps.specs.FirstJob.{at_least, first_job, first_request}
+use Rattle.fries_call.specs.First.{IsRunOfFirst, TurnsAfterRow}
+use Rattle.fries_steps.specs.FirstJob.{is_at_least, first_job, first_request}
 use Rattle.fries_steps.specs.SetupFor.{AreSame}
 use Rattle.fries_steps.specs.Reading.{AreRowsOf}
 use Rattle.fries_steps.specs.Running.{IsRunOf}
@@ -117,7 +117,7 @@ comes_met setup row (entry.Ended from ∷ later) come = comes_met setup row late
     go true come = come
     go false come = come
 
-row_next : (rows : List Row) (place : ℕ) → row_at rows (place + 1) ≡ slice_get rows place
+row_next : (rows : List Row) (place : ℕ) → row_numbered rows (place + 1) ≡ slice_get rows place
 row_next rows place = rw add-one refl
 
 -- what a feed with so many rows left, after a row, puts on the lane holds the later rows
@@ -137,7 +137,7 @@ module _ (least : ℤ) (rows : List Row) (are : AreRows rows) (sources : AreFrom
   rows_come zero place row whole above below issued = absurd (omega arith)
   rows_come (suc left) place row whole above below issued =
       let (now, at) = item_at rows place (omega arith) in
-      let here : row_at rows (place + 1) ≡ Some now = row_next rows place ∙ at in
+      let here : row_numbered rows (place + 1) ≡ Some now = row_next rows place ∙ at in
       let source = at_of_all (λ (r : Row). IsSourceOf (first_job least) r.source) now rows sources (in_of_place now rows place at) in
       let way = enters least now.source now.tuple source in
       let number = (are place now at).numbered in
@@ -198,7 +198,7 @@ turns least after next rows are sources plans splits ordered feeds journals stat
     let job = first_job least in
     let setup = setup_view_of job (first_request after next ∷ []) plans splits ordered in
     let total : ℕ = length rows in
-    let turned = order 0 (record { number = 0; node = 1; place = 0; func = at_least least }) journal refl at 1 covered in
+    let turned = order 0 (record { number = 0; node = 1; place = 0; func = is_at_least least }) journal refl at 1 covered in
     let shows : fed job rows 0 into_big feeds ++ item.Last ∷ [] ≡ shown setup 0 journal = (let tie = run.conserved 0 into_big journal refl at in cc) in
     let come : (row : ℕ) → 0 < row → row ≤ total → comes row (fed job rows 0 into_big feeds) ≡ true =
     λ row some within. subst (λ (f : List Feed). comes row (fed job rows 0 into_big f) ≡ true) (sym run.feed)
@@ -220,7 +220,7 @@ turns least after next rows are sources plans splits ordered feeds journals stat
 
 pub first_runs : (asked : FirstAsked) (files : Option Files) (rows : List Row) (done : Done) → AreRowsOf files asked.payments (first_job asked.least) rows →
     AreRows rows → AreFromSources (first_job asked.least) rows → IsRunOf AreSame false (first_job asked.least) (first_request asked.after asked.least_after ∷ []) rows done →
-    IsInOrder (length rows) (record_view done.ran) → IsFirstRun asked files done
+    IsInOrder (length rows) (record_view done.ran) → IsRunOfFirst asked files done
 first_runs asked files rows done of are sources run in_order =
     let least = asked.least in
     let after = asked.after in

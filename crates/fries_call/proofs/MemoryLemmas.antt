@@ -8,14 +8,14 @@ use Rattle.fries_words.specs.Help.{help_of, version_line}
 use Rattle.live_control.specs.Asking.{AsksIs}
 use Rattle.fries_lines.specs.declared.fault.Fault.{Fault}
 use Rattle.fries_lines.specs.declared.fault.Fault.TheVariants as fault
-use Rattle.fries_steps.specs.Outcomes.{Stops, stopped}
+use Rattle.fries_steps.specs.Outcomes.{StopsFor, stopped}
 use Rattle.fries_steps.specs.declared.answer.Answer.{Answer}
 use Rattle.fries_steps.proofs.PrintLemmas.{prints_nothing}
 use Rattle.fries_call.specs.Answers.{Ends, IsNothingAsked}
 use Rattle.fries_call.specs.Prints.{PrintsText}
 
 -- nothing was read, stored or printed
-stops_for_memory : (Cause : Faults → Faults → Fault → Type 0) (old : World) (answer : Answer) → answer ≡ stopped fault.NoMemory → Cause old.shelf.faults old.shelf.faults fault.NoMemory → Stops Cause old old answer
+stops_for_memory : (Cause : Faults → Faults → Fault → Type 0) (old : World) (answer : Answer) → answer ≡ stopped fault.NoMemory → Cause old.shelf.faults old.shelf.faults fault.NoMemory → StopsFor Cause old old answer
 stops_for_memory Cause old answer is cause =
     record { why = fault.NoMemory; answer_is = is; cause = cause; files = refl; draft = refl; out = refl }
 
@@ -46,6 +46,6 @@ memory_ends None asks old answer is = tt
 memory_ends (Some asked) asks old answer is = ends_memory asked asks old answer is
 
 -- a call stops if nothing was asked, or memory ran out
-pub nothing_asked : (o : Option Asked) (old : World) (answer : Answer) (why : Fault) → (why ≡ fault.Usage) ⊎ (why ≡ fault.NoMemory) → answer ≡ stopped why → IfNone o (Stops IsNothingAsked old old answer)
+pub nothing_asked : (o : Option Asked) (old : World) (answer : Answer) (why : Fault) → (why ≡ fault.Usage) ⊎ (why ≡ fault.NoMemory) → answer ≡ stopped why → IfNone o (StopsFor IsNothingAsked old old answer)
 nothing_asked None old answer why one is = record { why = why; answer_is = is; cause = (one, refl); files = refl; draft = refl; out = refl }
 nothing_asked (Some asked) old answer why one is = tt

@@ -13,7 +13,7 @@ use Rattle.fries_lines.specs.declared.fault.Fault.{Fault}
 use Rattle.fries_lines.specs.declared.fault.FileIs.TheVariants as file
 use Rattle.fries_steps.specs.Effects.{IsExcused, PrintsFault}
 use Rattle.fries_steps.specs.Reading.{RefusesSave}
-use Rattle.fries_steps.specs.Running.{files_of, run_lines}
+use Rattle.fries_steps.specs.Running.{files_written, run_lines}
 use Rattle.fries_steps.specs.SetupFor.{AreSame, IsSetupFor}
 use Rattle.fries_steps.specs.declared.answer.Answer.{Answer}
 use Rattle.fries_steps.proofs.FileLemmas.{ReadSame, follows_excused, follows_read, follows_unread, no_start, ran_or_excused, sole_start, start_follows_same, start_told_same, unread_excused}
@@ -68,6 +68,6 @@ follows_resume excludes have asked old between new answer ends prints =
             file = λ setup made. start_follows_same mine (setup_view setup) count asked.save old new answer.fault (read_same of.job of.requests r.done.ran.setup setup of.setup made count)
                 (follows_read file.Save (λ bytes. save_of mine count bytes ≡ Ok start) (RefusesSave mine count) asked.save old new answer.fault (no_start mine count start) of.of_save);
             later = λ setup other made tells.
-                ran_or_excused (files_of asked.run.alerts (Some asked.run.audit) None r.done) (run_lines r.done) old between new answer.fault r.outcome prints;
+                ran_or_excused (files_written asked.run.alerts (Some asked.run.audit) None r.done) (run_lines r.done) old between new answer.fault r.outcome prints;
           })
     ]

@@ -15,7 +15,7 @@ use Rattle.fries_lines.specs.declared.fault.FileIs.TheVariants as file
 use Rattle.tuple_trace.specs.Counts.{Rose}
 use Rattle.versions.specs.declared.in_order.Refused.{Refused}
 use Rattle.fries_call.specs.Answers.{Ends, IsNothingAsked}
-use Rattle.fries_steps.specs.Outcomes.{EndsAfterRun, EndsStoring, Stops, StopsStoring}
+use Rattle.fries_steps.specs.Outcomes.{EndsAfterRun, EndsStoring, StopsFor, StopsStoring}
 use Rattle.fries_steps.specs.FirstJob.{first_job}
 use Rattle.fries_call.specs.Make.{IsNotMade, MakesNoRows}
 use Rattle.payments.specs.World.{ShelfState, SinkState, World}
@@ -32,7 +32,7 @@ use Rattle.fries_call.specs.Resume.{IsNoResume}
 use Rattle.flow_model.specs.SetupView.{SetupView}
 use Rattle.flow_model.specs.Setup.{setup_view}
 use Rattle.fries_steps.specs.Live.{live_fault, live_lines}
-use Rattle.fries_steps.specs.Running.{alerts_of, files_of, made_lines, run_lines}
+use Rattle.fries_steps.specs.Running.{alerts_of, files_written, made_lines, run_lines}
 use Rattle.live_control.specs.Asking.{AsksIs}
 use Rattle.fries_call.specs.Sure.{IsSure, IsSureStatus, SureCallsEndWell}
 use Rattle.fries_steps.specs.declared.answer.Answer.{Answer}
@@ -236,14 +236,14 @@ run_own texts lines old new answer sure later outcome =
 
 -- ---- each command
 
-stopped_own : (Cause : Faults → Faults → Fault → Type 0) (old new : World) (answer : Answer) → (s : Stops Cause old new answer) →
+stopped_own : (Cause : Faults → Faults → Fault → Type 0) (old new : World) (answer : Answer) → (s : StopsFor Cause old new answer) →
     IsOwn (Some s.why) → IsOwn answer.fault
 stopped_own Cause old new answer s own = subst (λ (x : Answer). IsOwn x.fault) (sym s.answer_is) own
 
 text_own : (text : List ℕ) (old new : World) (answer : Answer) → PrintsText text old new answer → IsSure old → IsSure new → IsOwn answer.fault
 text_own text old new answer p sure later = prints_own text old.out new.out answer.fault sure.out later.out p.lines.prints
 
-nothing_own : (old new : World) (answer : Answer) → Stops IsNothingAsked old new answer → IsOwn answer.fault
+nothing_own : (old new : World) (answer : Answer) → StopsFor IsNothingAsked old new answer → IsOwn answer.fault
 nothing_own old new answer s =
     stopped_own IsNothingAsked old new answer s (elim s.cause.0 [
       | inl e ↦ subst (λ (f : Fault). IsOwn (Some f)) (sym e) tt
@@ -261,7 +261,7 @@ ends_own : (asked : Asked) (was now : AsksIs) (old new : World) (answer : Answer
 ends_own (First asked) was now old new answer ends sure later first last =
     elim ends [
       | inl s ↦ stopped_own _ old new answer s (unread_own file.Payments (RefusesRows (first_job asked.least)) old.shelf.files asked.payments old new s.why (of_rows (first_job asked.least)) sure later s.cause)
-      | inr r ↦ run_own (files_of asked.alerts None None r.done) (run_lines r.done) old new answer.fault sure later r.outcome
+      | inr r ↦ run_own (files_written asked.alerts None None r.done) (run_lines r.done) old new answer.fault sure later r.outcome
     ]
 ends_own (Check name) was now old new answer ends sure later first last =
     elim ends [
@@ -276,7 +276,7 @@ ends_own (Plan asked) was now old new answer ends sure later first last =
 ends_own (Run asked) was now old new answer ends sure later first last =
     elim ends [
       | inl s ↦ stopped_own _ old new answer s (no_inputs_own asked.plan asked.payments old.shelf.files old new s.why sure later s.cause)
-      | inr r ↦ run_own (files_of asked.alerts (Some asked.audit) None r.done) (run_lines r.done) old new answer.fault sure later r.outcome
+      | inr r ↦ run_own (files_written asked.alerts (Some asked.audit) None r.done) (run_lines r.done) old new answer.fault sure later r.outcome
     ]
 ends_own (Make asked) was now old new answer ends sure later first last =
     elim ends [
@@ -286,18 +286,18 @@ ends_own (Make asked) was now old new answer ends sure later first last =
 ends_own (Save asked) was now old new answer ends sure later first last =
     elim ends [
       | inl s ↦ stopped_own _ old new answer s (no_inputs_own asked.run.plan asked.run.payments old.shelf.files old new s.why sure later s.cause)
-      | inr r ↦ run_own (files_of asked.run.alerts (Some asked.run.audit) (Some asked.save) r.done) (run_lines r.done) old new answer.fault sure later r.outcome
+      | inr r ↦ run_own (files_written asked.run.alerts (Some asked.run.audit) (Some asked.save) r.done) (run_lines r.done) old new answer.fault sure later r.outcome
     ]
 ends_own (Resume asked) was now old new answer ends sure later first last =
     elim ends [
       | inl s ↦ stopped_own _ old new answer s (no_resume_own asked old.shelf.files old new s.why sure later s.cause)
-      | inr (start, r) ↦ run_own (files_of asked.run.alerts (Some asked.run.audit) None r.done) (run_lines r.done) old new answer.fault sure later r.outcome
+      | inr (start, r) ↦ run_own (files_written asked.run.alerts (Some asked.run.audit) None r.done) (run_lines r.done) old new answer.fault sure later r.outcome
     ]
 ends_own (Live asked) was now old new answer ends sure later first last =
     elim ends [
       | inl s ↦ stopped_own _ old new answer s.stops (no_inputs_own asked.plan asked.payments old.shelf.files old new s.stops.why sure later s.stops.cause)
       | inr r ↦ live_own r.live.heard.failed r.written answer.fault r.fault_is
-          (run_own (files_of asked.alerts (Some asked.audit) None r.live.done) (live_lines r.live) old new r.written sure later r.outcome)
+          (run_own (files_written asked.alerts (Some asked.audit) None r.live.done) (live_lines r.live) old new r.written sure later r.outcome)
           (λ e. not_risen was.faults now.faults first last (r.is_so.run.heard.failed e))
     ]
 ends_own (Verify asked) was now old new answer ends sure later first last =

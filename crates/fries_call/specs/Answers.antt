@@ -26,8 +26,8 @@ use Rattle.fries_call.specs.Verify.{EndsVerify, FollowsVerdict}
 use Rattle.fries_call.specs.declared.outcome.Outcome.{Outcome}
 
 -- what a call came to, but for its status
-abbrev pub outcome_view : Outcome → Answer
-outcome_view outcome = record {
+abbrev pub outcome_as_view : Outcome → Answer
+outcome_as_view outcome = record {
   fault = outcome.fault;
   refused = outcome.refused;
   ran = outcome.ran;

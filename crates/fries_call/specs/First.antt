@@ -8,7 +8,7 @@ use Rattle.flow_model.specs.Record.{record_view}
 use Rattle.flow_model.specs.Whole.{after_turn, before_turn, meets_row}
 use Rattle.flow_replay.specs.Order.{IsInOrder}
 use Rattle.fries_words.specs.Asked.{FirstAsked}
-use Rattle.fries_steps.specs.Outcomes.{Stops}
+use Rattle.fries_steps.specs.Outcomes.{StopsFor}
 use Rattle.fries_steps.specs.FirstJob.{first_job, first_request}
 use Rattle.fries_steps.specs.SetupFor.{AreSame}
 use Rattle.payments.specs.World.{World}
@@ -38,7 +38,7 @@ pub record TurnsAfterRow (journal : List Entry) (request last rows : ℕ) : Type
 -- The rows of the payments file were run, and the one request, which is accepted. What it covers
 -- turned behind the row that it waits for and before every later one. So the worker of `big`, which
 -- is worker 0, met the rows up to `after` before the turn, and all others after it.
-pub record IsFirstRun (asked : FirstAsked) (files : Option Files) (done : Done) : Type 0 where
+pub record IsRunOfFirst (asked : FirstAsked) (files : Option Files) (done : Done) : Type 0 where
   pub rows : List Row
   pub of_rows : AreRowsOf files asked.payments (first_job asked.least) rows
   pub run : IsRunOf AreSame false (first_job asked.least)
@@ -53,5 +53,5 @@ pub record IsFirstRun (asked : FirstAsked) (files : Option Files) (done : Done) 
 -- how a call of `first` ends, before the line of its fault is printed
 abbrev pub EndsFirst : FirstAsked → World → World → Answer → Type 0
 EndsFirst asked old new answer =
-    Stops (AreNoRows old.shelf.files asked.payments (first_job asked.least)) old new answer
-    ⊎ Runs (IsFirstRun asked old.shelf.files) asked.alerts None None None old new answer
+    StopsFor (AreNoRows old.shelf.files asked.payments (first_job asked.least)) old new answer
+    ⊎ Runs (IsRunOfFirst asked old.shelf.files) asked.alerts None None None old new answer

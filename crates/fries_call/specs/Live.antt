@@ -11,9 +11,9 @@ use Rattle.live_control.specs.Asking.{AsksIs}
 use Rattle.fries_lines.specs.declared.fault.Fault.{Fault}
 use Rattle.fries_lines.specs.declared.fault.Fault.TheVariants as fault
 use Rattle.fries_lines.specs.declared.fault.FileIs.TheVariants as file
-use Rattle.fries_steps.specs.Outcomes.{EndsAfterRun, Stops}
+use Rattle.fries_steps.specs.Outcomes.{EndsAfterRun, StopsFor}
 use Rattle.fries_steps.specs.Live.{IsLiveRun, live_fault, live_lines}
-use Rattle.fries_steps.specs.Running.{files_of}
+use Rattle.fries_steps.specs.Running.{files_written}
 use Rattle.fries_steps.specs.declared.answer.Answer.{Answer}
 use Rattle.fries_steps.specs.declared.live.LiveDone.{LiveDone}
 use Rattle.fries_call.specs.Inputs.{AreInputsOf, AreNoInputs}
@@ -30,7 +30,7 @@ pub record IsLiveRunOfFiles (asked : RunAsked) (files : Option Files) (was now :
 -- the call stopped before a run was done; it left the input, unless memory ran out
 pub record StopsLive (asked : RunAsked) (was now : AsksIs) (old new : World) (answer : Answer)
     : Type 0 where
-  pub stops : Stops (AreNoInputs old.shelf.files asked.plan asked.payments) old new answer
+  pub stops : StopsFor (AreNoInputs old.shelf.files asked.plan asked.payments) old new answer
   pub asks : (now ≡ was) ⊎ (answer.fault ≡ Some fault.NoMemory)
 
 -- the call ran live what the files hold, and came to storing its files and printing its lines; a
@@ -41,7 +41,8 @@ pub record RunsLive (asked : RunAsked) (was now : AsksIs) (old new : World) (ans
   pub is_so : IsLiveRunOfFiles asked old.shelf.files was now live
   pub written : Option Fault
   pub outcome :
-      EndsAfterRun (files_of asked.alerts (Some asked.audit) None live.done) (live_lines live) old
+      EndsAfterRun (files_written asked.alerts (Some asked.audit) None live.done)
+      (live_lines live) old
       new written
   pub fault_is : answer.fault ≡ live_fault live.heard.failed written
   pub refused : answer.refused ≡ live.done.refused

@@ -10,7 +10,7 @@ use Rattle.payments.specs.declared.read.PFault.TheVariants as rows
 use Rattle.tuple_trace.specs.declared.row.Row.{Row}
 use Rattle.fries_lines.specs.declared.fault.Fault.{Fault}
 use Rattle.fries_lines.specs.declared.fault.Fault.TheVariants as fault
-use Rattle.fries_steps.specs.Outcomes.{Stops}
+use Rattle.fries_steps.specs.Outcomes.{StopsFor}
 use Rattle.payments.specs.World.{World}
 use Rattle.fries_steps.specs.Effects.{IsExcused}
 use Rattle.fries_steps.specs.SetupFor.{AreSame}
@@ -48,7 +48,7 @@ IsNotMade asked files old new why =
 -- how a call of `make` ends, before the line of its fault is printed
 abbrev pub EndsMake : MakeAsked → World → World → Answer → Type 0
 EndsMake asked old new answer =
-    Stops (IsNotMade asked old.shelf.files) old new answer
+    StopsFor (IsNotMade asked old.shelf.files) old new answer
     ⊎ PrintsRun (IsMadeRun asked old.shelf.files) made_lines old new answer
 
 -- the answer, seen from the rows that are to be made, if the job file tells this job

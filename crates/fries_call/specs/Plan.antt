@@ -8,7 +8,7 @@ use Rattle.versions.specs.declared.request.Request.{Request}
 use Rattle.flow_model.specs.declared.setup.Setup.{Setup}
 use Rattle.fries_words.specs.Asked.{PlanAsked}
 use Rattle.fries_steps.specs.SetupFor.{AreSame, IsSetupFor}
-use Rattle.fries_steps.specs.Outcomes.{PrintsLines, Stops}
+use Rattle.fries_steps.specs.Outcomes.{PrintsLines, StopsFor}
 use Rattle.fries_lines.specs.Lines.{plan_lines, refused_lines}
 use Rattle.payments.specs.World.{World}
 use Rattle.fries_steps.specs.Reading.{AreNoRequests, AreRequestsOf, IsJobOf, IsNoJob}
@@ -51,5 +51,5 @@ pub record PrintsSetup (asked : PlanAsked) (old new : World) (answer : Answer) :
 
 -- how a call of `plan` ends, before the line of its fault is printed
 abbrev pub EndsPlan : PlanAsked → World → World → Answer → Type 0
-EndsPlan asked old new answer = Stops (IsNoSetup asked old.shelf.files) old new answer
+EndsPlan asked old new answer = StopsFor (IsNoSetup asked old.shelf.files) old new answer
     ⊎ PrintsSetup asked old new answer

@@ -13,9 +13,9 @@ use Rattle.fries_words.specs.Asked.{PlanAsked, ResumeAsked}
 use Rattle.fries_words.specs.Form.{Text}
 use Rattle.fries_lines.specs.declared.fault.Fault.{Fault}
 use Rattle.fries_lines.specs.declared.fault.FileIs.TheVariants as file_is
-use Rattle.fries_steps.specs.Outcomes.{Stops}
+use Rattle.fries_steps.specs.Outcomes.{StopsFor}
 use Rattle.fries_steps.specs.Parts.{IsRunFromStart}
-use Rattle.fries_steps.specs.Reading.{FollowsFile, IsNoStart, IsStartOf, RefusesSave, TellsStart}
+use Rattle.fries_steps.specs.Reading.{FollowsFile, IsNoStart, IsStartIn, RefusesSave, TellsStart}
 use Rattle.fries_steps.specs.Running.{Runs}
 use Rattle.fries_steps.specs.SetupFor.{AreSame, IsSetupFor}
 use Rattle.fries_steps.specs.declared.answer.Answer.{Answer}
@@ -32,7 +32,7 @@ pub record IsResumedRun (asked : ResumeAsked) (files : Option Files) (start : Be
   pub rows : List Row
   pub of_files : AreInputsOf files asked.run.plan asked.run.payments job requests rows
   pub setup : IsSetupFor AreSame false job requests done.ran.setup
-  pub of_save : IsStartOf files asked.save (setup_view done.ran.setup) (length rows) start
+  pub of_save : IsStartIn files asked.save (setup_view done.ran.setup) (length rows) start
   pub run : IsRunFromStart start done.ran.setup requests rows done
 
 -- the files hold a job, requests and rows, and their setup in this mode has no savepoint in its
@@ -56,7 +56,7 @@ IsNoResume asked files old new why =
 -- how a call of `resume` ends, before the line of its fault is printed
 abbrev pub EndsResume : ResumeAsked → World → World → Answer → Type 0
 EndsResume asked old new answer =
-    Stops (IsNoResume asked old.shelf.files) old new answer
+    StopsFor (IsNoResume asked old.shelf.files) old new answer
     ⊎ ((start : Begin) × Runs (IsResumedRun asked old.shelf.files start) asked.run.alerts
     (Some asked.run.audit) None (Some start) old new answer)
 

@@ -9,7 +9,7 @@ use Rattle.payments.specs.World.{World}
 use Rattle.tuple_trace.specs.declared.row.Row.{Row}
 use Rattle.versions.specs.declared.request.Request.{Request}
 use Rattle.fries_words.specs.Asked.{RunAsked}
-use Rattle.fries_steps.specs.Outcomes.{Stops}
+use Rattle.fries_steps.specs.Outcomes.{StopsFor}
 use Rattle.fries_steps.specs.Running.{IsRunOf, Runs}
 use Rattle.fries_steps.specs.SetupFor.{AreSame}
 use Rattle.fries_steps.specs.declared.answer.Answer.{Answer}
@@ -35,6 +35,6 @@ pub record IsRunOfFiles (asked : RunAsked) (files : Option Files) (done : Done) 
 -- how a call of `run` ends, before the line of its fault is printed
 abbrev pub EndsRun : RunAsked → World → World → Answer → Type 0
 EndsRun asked old new answer =
-    Stops (AreNoInputs old.shelf.files asked.plan asked.payments) old new answer
+    StopsFor (AreNoInputs old.shelf.files asked.plan asked.payments) old new answer
     ⊎ Runs (IsRunOfFiles asked old.shelf.files) asked.alerts
     (Some asked.audit) None None old new answer

@@ -6,7 +6,7 @@ use Rattle.payments.specs.World.{World}
 use Rattle.tuple_trace.specs.declared.row.Row.{Row}
 use Rattle.versions.specs.declared.request.Request.{Request}
 use Rattle.fries_words.specs.Asked.{SaveAsked}
-use Rattle.fries_steps.specs.Outcomes.{Stops}
+use Rattle.fries_steps.specs.Outcomes.{StopsFor}
 use Rattle.fries_steps.specs.Parts.{IsFirstPart}
 use Rattle.fries_steps.specs.Running.{Runs}
 use Rattle.fries_steps.specs.declared.answer.Answer.{Answer}
@@ -25,6 +25,6 @@ pub record IsSavedRun (asked : SaveAsked) (files : Option Files) (done : Done) :
 -- the alerts and the audit.
 abbrev pub EndsSave : SaveAsked → World → World → Answer → Type 0
 EndsSave asked old new answer =
-    Stops (AreNoInputs old.shelf.files asked.run.plan asked.run.payments) old new answer
+    StopsFor (AreNoInputs old.shelf.files asked.run.plan asked.run.payments) old new answer
     ⊎ Runs (IsSavedRun asked old.shelf.files) asked.run.alerts (Some asked.run.audit)
     (Some asked.save) None old new answer

@@ -5,7 +5,7 @@ use Rattle.live_control.specs.Asking.{AsksIs}
 use Rattle.fries_lines.specs.Faults.{status_for}
 use Rattle.fries_call.specs.Answers.{Answered, Ends, IsNothingAsked}
 use Rattle.payments.specs.World.{World}
-use Rattle.fries_steps.specs.Outcomes.{Stops}
+use Rattle.fries_steps.specs.Outcomes.{StopsFor}
 use Rattle.fries_steps.specs.declared.answer.Answer.{Answer}
 
 -- neither the shelf nor the output has counted a fault
@@ -21,7 +21,7 @@ IsSureStatus status = Contains (0 ∷ 1 ∷ 2 ∷ 3 ∷ 4 ∷ 7 ∷ 8 ∷ 9 ∷ 
 -- a call answered this, whatever it was asked
 abbrev pub IsAnswered : AsksIs → AsksIs → World → World → Answer → Type 0
 IsAnswered was now old new answer =
-    Answered (Stops IsNothingAsked) old new answer
+    Answered (StopsFor IsNothingAsked) old new answer
     ⊎ ((asked : Asked) × Answered (Ends asked was now) old new answer)
 
 -- a call ends with such a status if neither the shelf nor the output nor the input has counted a

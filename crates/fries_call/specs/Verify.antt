@@ -17,9 +17,9 @@ use Rattle.fries_lines.specs.declared.fault.Fault.{Fault}
 use Rattle.fries_lines.specs.declared.fault.FileIs.TheVariants as file
 use Rattle.sink_journal.specs.Alerts.{alerts}
 use Rattle.fries_steps.specs.Live.{AreReleased}
-use Rattle.fries_steps.specs.Outcomes.{Stops}
+use Rattle.fries_steps.specs.Outcomes.{StopsFor}
 use Rattle.fries_steps.specs.Parts.{IsRunFromStart}
-use Rattle.fries_steps.specs.Reading.{FollowsFile, IsStartOf, RefusesSave, TellsStart}
+use Rattle.fries_steps.specs.Reading.{FollowsFile, IsStartIn, RefusesSave, TellsStart}
 use Rattle.fries_steps.specs.Running.{IsRunOf, alerts_of}
 use Rattle.fries_steps.specs.SetupFor.{AreSame, IsSetupFor}
 use Rattle.fries_steps.specs.declared.answer.Answer.{Answer}
@@ -40,7 +40,7 @@ use Rattle.fries_call.specs.Resume.{HasNoStart}
 -- where a run begins: that of `resume` where its savepoint's file says, and others at first
 abbrev pub BeginsAt : AuditOf → Option Files → Setup → List Row → Begin → Type 0
 BeginsAt (audit.Resume save) files setup rows begin =
-    IsStartOf files save (setup_view setup) (length rows) begin
+    IsStartIn files save (setup_view setup) (length rows) begin
 BeginsAt _ files setup rows begin = begin ≡ at_first (setup_view setup)
 
 -- the setup by which that command runs
@@ -148,7 +148,7 @@ IsNotVerified asked files old new why =
 -- how a call of `verify` ends, before the line of its fault is printed
 abbrev pub EndsVerify : VerifyAsked → World → World → Answer → Type 0
 EndsVerify asked old new answer =
-    Stops (IsNotVerified asked old.shelf.files) old new answer
+    StopsFor (IsNotVerified asked old.shelf.files) old new answer
     ⊎ PrintsRun (IsVerifiedRun asked old.shelf.files) verified_lines old new answer
 
 -- the savepoint's file, where the audit is one of `resume`, is answered by what it holds

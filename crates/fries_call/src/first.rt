@@ -1,7 +1,7 @@
 ghost use Rattle.std.specs.Prelude.{◌≡◌, IfOk, IfErr, OnOk, length};
 ghost use Rattle.jobs.specs.Nodes.{worker_count};
 ghost use Rattle.fries_words.specs.Asked.{first_asked};
-ghost use Rattle.fries_call.specs.First.{EndsFirst, IsFirstRun};
+ghost use Rattle.fries_call.specs.First.{EndsFirst, IsRunOfFirst};
 ghost use Rattle.payments.specs.World.{world};
 ghost use Rattle.fries_steps.specs.FirstJob.{first_job as first_job_of};
 ghost use Rattle.fries_steps.specs.Reading.{AreNoRows};
@@ -46,7 +46,7 @@ fn run_first<R: Threads + Sync, S: Shelf>(
     first: &First,
     shelf: &mut S,
 ) -> Result<Done, Fault>
-    ensures run { IfOk result (IsFirstRun (first_asked first.now) (S.state shelf.old).files) }
+    ensures run { IfOk result (IsRunOfFirst (first_asked first.now) (S.state shelf.old).files) }
     ensures journals { IfOk result (λ done. length done.ran.journals
         ≡ worker_count done.ran.setup.job.nodes) }
     ensures states { IfOk result (λ done. length done.ran.states

@@ -1,12 +1,13 @@
 ghost use Rattle.std.specs.Prelude.{◌≡◌, IfNone, IfSome};
 ghost use Rattle.std.specs.Result.{result_err};
-ghost use Rattle.fries_call.specs.Answers.{outcome_view, Answered, Ends, Follows, IsNothingAsked};
+ghost use Rattle.fries_call.specs.Answers.{outcome_as_view, Answered, Ends, Follows};
+ghost use Rattle.fries_call.specs.Answers.{IsNothingAsked};
 ghost use Rattle.fries_call.specs.Answers.{LeavesAsks};
 ghost use Rattle.fries_call.specs.Prints.{PrintsText};
 ghost use Rattle.fries_words.specs.Asked.{IsSized, asked_by};
 ghost use Rattle.fries_words.specs.Words.{asked_of};
 ghost use Rattle.fries_steps.specs.Effects.{Prints, PrintsReport};
-ghost use Rattle.fries_steps.specs.Outcomes.{Stops};
+ghost use Rattle.fries_steps.specs.Outcomes.{StopsFor};
 ghost use Rattle.fries_lines.specs.FaultWords.{fault_line as fault_line_of};
 ghost use Rattle.fries_lines.specs.Faults.{status_for};
 ghost use Rattle.payments.specs.World.{world};
@@ -53,15 +54,15 @@ where
     O: Sink,
     G: Gate + Sync,
     Q: Asks,
-    ensures usage { IfNone (asked_of words.now) (Answered (Stops IsNothingAsked)
+    ensures usage { IfNone (asked_of words.now) (Answered (StopsFor IsNothingAsked)
         (world (S.state shelf.old) (O.state out.old))
         (world (S.state shelf.new) (O.state out.new))
-        (outcome_view result)) }
+        (outcome_as_view result)) }
     ensures answers { IfSome (asked_of words.now) (λ asked.
         Answered (Ends asked (Q.state asks.old) (Q.state asks.new))
         (world (S.state shelf.old) (O.state out.old))
         (world (S.state shelf.new) (O.state out.new))
-        (outcome_view result)) }
+        (outcome_as_view result)) }
     ensures file { IfSome (asked_of words.now) (λ asked. Follows asked
         (Q.state asks.old) (Q.state asks.new)
         (world (S.state shelf.old) (O.state out.old))
@@ -106,7 +107,7 @@ where
     O: Sink,
     G: Gate + Sync,
     Q: Asks,
-    ensures usage { IfNone (asked_of words.now) (Stops IsNothingAsked
+    ensures usage { IfNone (asked_of words.now) (StopsFor IsNothingAsked
         (world (S.state shelf.old) (O.state out.old))
         (world (S.state shelf.new) (O.state out.new))
         result) }

@@ -85,19 +85,19 @@ abbrev pub write_code : FileIs → List ℕ
 write_code file.Out = codes "6 out"
 write_code _ = codes "6"
 
-abbrev pub code_of : Fault → List ℕ
-code_of fault.Usage = codes "1"
-code_of (fault.Job code) = job_code code
-code_of (fault.Requests code) = requests_code code
-code_of (fault.Payments code) = payments_code code
-code_of (fault.Save code) = save_code code
-code_of (fault.Audit code) = audit_code code
-code_of (fault.Alerts line) = codes "V7"
-code_of (fault.Part part) = codes "V8"
-code_of (fault.Read file) = read_code file
-code_of (fault.Write file) = write_code file
-code_of fault.NoMemory = codes "7"
-code_of (fault.Long file) = long_code file
+abbrev pub help_code_of : Fault → List ℕ
+help_code_of fault.Usage = codes "1"
+help_code_of (fault.Job code) = job_code code
+help_code_of (fault.Requests code) = requests_code code
+help_code_of (fault.Payments code) = payments_code code
+help_code_of (fault.Save code) = save_code code
+help_code_of (fault.Audit code) = audit_code code
+help_code_of (fault.Alerts line) = codes "V7"
+help_code_of (fault.Part part) = codes "V8"
+help_code_of (fault.Read file) = read_code file
+help_code_of (fault.Write file) = write_code file
+help_code_of fault.NoMemory = codes "7"
+help_code_of (fault.Long file) = long_code file
 
 -- the savepoint of a stream: a wait has a row of its own
 abbrev pub stream_save_code : StreamSaveFault → List ℕ
@@ -110,7 +110,7 @@ stream_save_code (stream_save.Audit length) = codes "S5"
 stream_save_code stream_save.NoMemory = codes "7"
 
 abbrev pub stream_code : StreamFault → List ℕ
-stream_code (stream.Call code) = code_of code
+stream_code (stream.Call code) = help_code_of code
 stream_code (stream.Save code) = stream_save_code code
 stream_code (stream.Ahead row) = codes "S6"
 

@@ -4,11 +4,13 @@ use Rattle.std.specs.Borrow.{Bor}
 use Rattle.std.specs.Str.{bytes_eq}
 use Rattle.fries_help.specs.declared.table.HelpIn.{HelpIn}
 use Rattle.fries_help.specs.declared.table.TheConstants.{USAGE, J1, J2, J3, J4, J5, J6, J7, J8, J9}
-use Rattle.fries_help.specs.declared.table.TheConstants.{J10, F1, F2, F3, P1, P2, P3, P4, P5, P6, P7}
+use Rattle.fries_help.specs.declared.table.TheConstants.{J10, F1, F2, F3, P1, P2, P3, P4, P5, P6}
+use Rattle.fries_help.specs.declared.table.TheConstants.{P7}
 use Rattle.fries_help.specs.declared.table.TheConstants.{S1, S2, S3, S3_STREAM, S4, S5, S6}
 use Rattle.fries_help.specs.declared.table.TheConstants.{V1, V2, V3, V4, V5, V6, V7, V8}
 use Rattle.fries_help.specs.declared.table.TheConstants.{Q1, Q2, Q3, Q4, Q5, Q6, Q7, Q8, Q9, Q10}
-use Rattle.fries_help.specs.declared.table.TheConstants.{READ, READ_ASKS, WRITE, OUT, MEMORY, REFUSED}
+use Rattle.fries_help.specs.declared.table.TheConstants.{READ, READ_ASKS, WRITE, OUT, MEMORY}
+use Rattle.fries_help.specs.declared.table.TheConstants.{REFUSED}
 use Rattle.fries_help.specs.declared.table.TheConstants.{LONG, LONG_PAYMENTS, LONG_SAVE, LONG_AUDIT}
 use Rattle.fries_help.specs.declared.table.TheConstants.{LONG_ALERTS}
 

@@ -10,7 +10,7 @@ message head help detail =
     ++ codes "\n"
 
 -- the text is a message with the sentences of the row of the table that has this code
-pub record Tells (code text : List ℕ) : Type 0 where
+pub record TellsHelp (code text : List ℕ) : Type 0 where
   pub head : List ℕ
   pub detail : List ℕ
   pub help : HelpIn (List ℕ)

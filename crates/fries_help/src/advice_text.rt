@@ -1,8 +1,8 @@
 // The whole message of a call.
 ghost use Rattle.std.specs.Prelude.{◌≡◌, [], ℕ, List, None, Some, IfOk, IfSome, string_bytes};
-ghost use Rattle.fries_help.specs.Codes.{code_of, refusal_code};
+ghost use Rattle.fries_help.specs.Codes.{help_code_of, refusal_code};
 ghost use Rattle.fries_help.specs.Table.{help_view, help_with};
-ghost use Rattle.fries_help.specs.Told.{Tells, message as message_of};
+ghost use Rattle.fries_help.specs.Told.{TellsHelp, message as message_of};
 
 use crate::audit_places::{actor_place, parts_place, record_place};
 use crate::call::{Call, title_of};
@@ -37,7 +37,7 @@ pub fn advice<L: Look>(alloc: Global, call: Call<'_>, look: &mut L) -> Result<St
     ensures quiet { call.entry.fault ≡ None → call.entry.refused.now ≡ [] →
         IfOk result (λ text. string_bytes text ≡ []) }
     ensures fault { IfSome call.entry.fault (λ fault.
-        IfOk result (λ text. Tells (code_of fault) (string_bytes text))) }
+        IfOk result (λ text. TellsHelp (help_code_of fault) (string_bytes text))) }
 {
     match call.fault {
         Some(fault) => Ok(fault_text(alloc, call, fault, look)?),
@@ -67,7 +67,7 @@ pub(crate) fn message(
     ensures text { IfOk result (λ text. string_bytes text
         ≡ message_of head.now (help_view help.entry) detail.now) }
     ensures tells { (code : List ℕ) → help_with code ≡ Some (help_view help.entry) →
-        IfOk result (λ text. Tells code (string_bytes text)) }
+        IfOk result (λ text. TellsHelp code (string_bytes text)) }
 {
     let Help { cause, cure, .. } = help;
     Ok(format!(in alloc; "{head}\n  {cause}\n{detail}  {cure}\n")?)
@@ -91,7 +91,7 @@ fn fault_text<L: Look>(
     fault: Fault,
     look: &mut L,
 ) -> Result<String, AllocError>
-    ensures { IfOk result (λ text. Tells (code_of fault) (string_bytes text)) }
+    ensures { IfOk result (λ text. TellsHelp (help_code_of fault) (string_bytes text)) }
 {
     let place = match place_of(alloc, call, fault, look) {
         Ok(place) => place,
@@ -368,7 +368,7 @@ fn refusal_text(
     documents: Documents<'_>,
     refused: Refused,
 ) -> Result<String, AllocError>
-    ensures { IfOk result (λ text. Tells (refusal_code refused.fault) (string_bytes text)) }
+    ensures { IfOk result (λ text. TellsHelp (refusal_code refused.fault) (string_bytes text)) }
 {
     let help = help_of_refusal(refused.fault);
     let code = help.code;

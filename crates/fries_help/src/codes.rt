@@ -1,6 +1,7 @@
 // Which row of the table tells of a fault.
 ghost use Rattle.std.specs.Prelude.{◌≡◌, Some};
-ghost use Rattle.fries_help.specs.Codes.{code_of, job_code, payments_code, refusal_code, requests_code};
+ghost use Rattle.fries_help.specs.Codes.{help_code_of, job_code, payments_code, refusal_code};
+ghost use Rattle.fries_help.specs.Codes.{requests_code};
 ghost use Rattle.fries_help.specs.Codes.{audit_code, save_code, stream_code, stream_save_code};
 ghost use Rattle.fries_help.specs.Table.{help_view, help_with};
 
@@ -17,7 +18,7 @@ use versions::QFault;
 /// What is said of a fault.
 #[tactic(auto, unfolding(crate::specs::Table::help_with))]
 pub fn help_of(fault: Fault) -> Help
-    ensures { help_with (code_of fault) ≡ Some (help_view result) }
+    ensures { help_with (help_code_of fault) ≡ Some (help_view result) }
 {
     match fault {
         Fault::Usage => USAGE,

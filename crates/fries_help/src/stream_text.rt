@@ -1,7 +1,7 @@
 // The whole message of a stream.
 ghost use Rattle.std.specs.Prelude.{◌≡◌, IfOk, IfSome, string_bytes};
 ghost use Rattle.fries_help.specs.Codes.{stream_code};
-ghost use Rattle.fries_help.specs.Told.{Tells};
+ghost use Rattle.fries_help.specs.Told.{TellsHelp};
 
 use crate::advice_text::{advice, file_of, message, push_file};
 use crate::call::Call;
@@ -30,7 +30,7 @@ pub fn stream_advice<L: Look>(
     look: &mut L,
 ) -> Result<String, NoMemory>
     ensures { IfSome fault (λ fault.
-        IfOk result (λ text. Tells (stream_code fault) (string_bytes text))) }
+        IfOk result (λ text. TellsHelp (stream_code fault) (string_bytes text))) }
 {
     match fault {
         None => advice(alloc, with_fault(call, None), look),
@@ -51,7 +51,7 @@ fn stream_text<L: Look>(
     fault: StreamFault,
     look: &mut L,
 ) -> Result<String, AllocError>
-    ensures { IfOk result (λ text. Tells (stream_code fault) (string_bytes text)) }
+    ensures { IfOk result (λ text. TellsHelp (stream_code fault) (string_bytes text)) }
 {
     let place = match stream_place(alloc, call, fault, look) {
         Ok(place) => place,

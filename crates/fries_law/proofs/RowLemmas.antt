@@ -3,7 +3,7 @@ use Rattle.std.proofs.Common.{◌≡◌, ◌+◌, ℕ, zero, suc, List, [], ◌�
 use Rattle.csv.specs.Reading.{default_config, records, strip_bom}
 use Rattle.jobs.specs.JobView.{JobView}
 use Rattle.jobs.specs.Nodes.{AreFromSources}
-use Rattle.payments.specs.Reading.{fields_from, first_cell, row_by, row_of, row_with, rows_behind, rows_from, rows_of, source_named}
+use Rattle.payments.specs.Reading.{fields_from, first_cell, row_by, record_row, row_with, rows_behind, rows_from, rows_of, source_named}
 use Rattle.payments.specs.declared.read.PFault.{PFault}
 use Rattle.payments.proofs.RowLemmas.{AreFromSources-rows_from, before-ok, if-ok}
 use Rattle.tuple_trace.specs.Rows.{AreRows, IsRow}
@@ -20,7 +20,7 @@ by_number : (job : JobView) (row : ℕ) (cells : List (List ℕ)) (source : Opti
 by_number job row cells None made ok = absurd (cc ok)
 by_number job row cells (Some source) made ok = with_number row source (fields_from row 0 job.columns (drop 1 cells)) made ok
 
-of_number : (job : JobView) (row : ℕ) (cells : List (List ℕ)) (made : Row) → row_of job row cells ≡ Ok made → IsRow row made
+of_number : (job : JobView) (row : ℕ) (cells : List (List ℕ)) (made : Row) → record_row job row cells ≡ Ok made → IsRow row made
 of_number job row cells made ok = by_number job row cells (source_named job (first_cell cells)) made (if-ok _ _ _ made (if-ok _ _ _ made ok))
 
 -- the first row has its number, and those behind it have theirs
@@ -40,7 +40,7 @@ numbered job n [] rows ok i row there =
     let gone : None ≡ Some row = subst (λ (l : List Row). slice_get l i ≡ Some row) (sym none) there in
     absurd (cc gone)
 numbered job n (first ∷ later) rows ok i row there =
-    let (item, rest, made, behind, whole) = before-ok (row_of job n first) (rows_from job (n + 1) later) rows ok in
+    let (item, rest, made, behind, whole) = before-ok (record_row job n first) (rows_from job (n + 1) later) rows ok in
     numbered_rest n i item row rest (of_number job n first item made) (λ k at. numbered job (n + 1) later rest behind k row at)
     (subst (λ (l : List Row). slice_get l i ≡ Some row) whole there)
 

@@ -39,16 +39,16 @@ use Rattle.fries_lines.specs.declared.fault.FileIs.{FileIs}
 use Rattle.fries_lines.specs.declared.fault.FileIs.TheVariants as file
 use Rattle.fries_steps.specs.Effects.{FileText, StoresWhole}
 use Rattle.fries_steps.specs.OneRun.{AreOneRun, GoesOn}
-use Rattle.fries_steps.specs.Outcomes.{EndsAfterRun, EndsStoring, Stops, stopped}
+use Rattle.fries_steps.specs.Outcomes.{EndsAfterRun, EndsStoring, StopsFor, stopped}
 use Rattle.fries_steps.specs.Parts.{IsFirstPart, IsRunFromStart}
-use Rattle.fries_steps.specs.Reading.{AreRequestsOf, AreRowsOf, HasRead, IsJobOf, IsStartOf, Tells}
-use Rattle.fries_steps.specs.Running.{Runs, alerts_of, audit_of, files_of, run_lines, saved_of}
+use Rattle.fries_steps.specs.Reading.{AreRequestsOf, AreRowsOf, HasReadFile, IsJobOf, IsStartIn, TellsFile}
+use Rattle.fries_steps.specs.Running.{Runs, alerts_of, audit_of, files_written, run_lines, saved_of}
 use Rattle.fries_steps.specs.SetupFor.{AreSame, IsSetupFor}
 use Rattle.fries_steps.specs.declared.answer.Answer.{Answer}
 use Rattle.fries_steps.specs.declared.running.Done.{Done}
 use Rattle.fries_steps.proofs.FileLemmas.{same_bytes, same_job, same_requests, same_rows, told_so}
 use Rattle.fries_steps.proofs.OneRunLemmas.{are_one_run}
-use Rattle.fries_call.specs.Answers.{Answered, Ends, outcome_view}
+use Rattle.fries_call.specs.Answers.{Answered, Ends, outcome_as_view}
 use Rattle.fries_call.specs.Inputs.{AreNoInputs}
 use Rattle.fries_call.specs.Resume.{EndsResume, IsNoResume, IsResumedRun}
 use Rattle.fries_call.specs.Save.{EndsSave, IsSavedRun}
@@ -63,9 +63,9 @@ of_some : {A : Type 0} (o : Option A) (P : A → Type 0) (x : A) → o ≡ Some 
 of_some {A} o P x is holds = subst (λ (p : Option A). IfSome p P) is holds
 
 -- a call whose words ask for this answered so
-answered : (asked : Asked) (old new : World) (outcome : Outcome) → (call : IsCallFor asked old new outcome) → Answered (Ends asked call.before call.after) old new (outcome_view outcome)
+answered : (asked : Asked) (old new : World) (outcome : Outcome) → (call : IsCallFor asked old new outcome) → Answered (Ends asked call.before call.after) old new (outcome_as_view outcome)
 answered asked old new outcome call =
-    of_some (asked_of call.words) (λ (found : Asked). Answered (Ends found call.before call.after) old new (outcome_view outcome)) asked call.words_ask call.answers
+    of_some (asked_of call.words) (λ (found : Asked). Answered (Ends found call.before call.after) old new (outcome_as_view outcome)) asked call.words_ask call.answers
 
 -- one of two, if it isn't the first
 second_of : {A B : Type 0} → A ⊎ B → (A → ⊥) → B
@@ -94,7 +94,7 @@ last_stored (text ∷ texts) last lines old new m told (inl stops) = absurd (cc 
 last_stored (text ∷ texts) last lines old new m told (inr (stored, stores, rest)) =
     last_stored texts last lines stored new (map.insert m text.name text.text) (told_after text old stored m stores told) rest
 
-save_stored : (alerts audit save lines : List ℕ) (done : Done) (old new : World) (m : Files) → old.shelf.files ≡ Some m → EndsAfterRun (files_of alerts (Some audit) (Some save) done) lines old new None
+save_stored : (alerts audit save lines : List ℕ) (done : Done) (old new : World) (m : Files) → old.shelf.files ≡ Some m → EndsAfterRun (files_written alerts (Some audit) (Some save) done) lines old new None
     → told_bytes new.shelf.files save ≡ Some (saved_of done)
 save_stored alerts audit save lines done old new m told (inl stops) = absurd (cc stops.answer_is)
 save_stored alerts audit save lines done old new m told (inr storing) =
@@ -121,8 +121,8 @@ one_record answer done ran is also = let both : ◌≡◌ {A = Option RunRecord}
 saved_there : (asked : SaveAsked) (old between new : World) (answer : Answer) (part : RunRecord) (m : Files) → old.shelf.files ≡ Some m → new.shelf ≡ between.shelf
     → Runs (IsSavedRun asked old.shelf.files) asked.run.alerts (Some asked.run.audit) (Some asked.save) None old between answer → answer.fault ≡ None → answer.ran ≡ Some part → HasSaved asked old new part
 saved_there asked old between new answer part m told same r fine ran =
-    let ends : EndsAfterRun (files_of asked.run.alerts (Some asked.run.audit) (Some asked.save) r.done) (run_lines r.done) old between None =
-    subst (λ (f : Option Fault). EndsAfterRun (files_of asked.run.alerts (Some asked.run.audit) (Some asked.save) r.done) (run_lines r.done) old between f) fine r.outcome in
+    let ends : EndsAfterRun (files_written asked.run.alerts (Some asked.run.audit) (Some asked.save) r.done) (run_lines r.done) old between None =
+    subst (λ (f : Option Fault). EndsAfterRun (files_written asked.run.alerts (Some asked.run.audit) (Some asked.save) r.done) (run_lines r.done) old between f) fine r.outcome in
     record {
       done = r.done;
       is_so = r.is_so;
@@ -134,13 +134,13 @@ saved_after : (asked : SaveAsked) (old between new : World) (answer : Answer) (p
     → answer.fault ≡ None → answer.ran ≡ Some part → HasSaved asked old new part
 saved_after asked old between new answer part m told same ends fine ran =
     saved_there asked old between new answer part m told same
-    (second_of ends (λ (s : Stops (AreNoInputs old.shelf.files asked.run.plan asked.run.payments) old between answer). nothing_ran answer s.why part s.answer_is ran)) fine ran
+    (second_of ends (λ (s : StopsFor (AreNoInputs old.shelf.files asked.run.plan asked.run.payments) old between answer). nothing_ran answer s.why part s.answer_is ran)) fine ran
 
 has_saved : (asked : SaveAsked) (old new : World) (outcome : Outcome) (part : RunRecord) (m : Files) → old.shelf.files ≡ Some m → IsCallFor (Save asked) old new outcome → outcome.fault ≡ None
     → outcome.ran ≡ Some part → HasSaved asked old new part
 has_saved asked old new outcome part m told call fine ran =
-    let a : Answered (Ends (Save asked) call.before call.after) old new (outcome_view outcome) = answered (Save asked) old new outcome call in
-    saved_after asked old a.between new (outcome_view outcome) part m told a.prints.shelf a.ends fine ran
+    let a : Answered (Ends (Save asked) call.before call.after) old new (outcome_as_view outcome) = answered (Save asked) old new outcome call in
+    saved_after asked old a.between new (outcome_as_view outcome) part m told a.prints.shelf a.ends fine ran
 
 -- ---- what `resume` ran
 
@@ -162,18 +162,18 @@ resumed_from asked later between answer rest r ran = resumed_there asked later b
 resumed_after : (asked : ResumeAsked) (later between : World) (answer : Answer) (rest : RunRecord) → EndsResume asked later between answer → answer.ran ≡ Some rest → HasResumed asked later rest
 resumed_after asked later between answer rest ends ran =
     resumed_from asked later between answer rest
-    (second_of ends (λ (s : Stops (IsNoResume asked later.shelf.files) later between answer). nothing_ran answer s.why rest s.answer_is ran)) ran
+    (second_of ends (λ (s : StopsFor (IsNoResume asked later.shelf.files) later between answer). nothing_ran answer s.why rest s.answer_is ran)) ran
 
 has_resumed : (asked : ResumeAsked) (later end : World) (outcome : Outcome) (rest : RunRecord) → IsCallFor (Resume asked) later end outcome → outcome.ran ≡ Some rest → HasResumed asked later rest
 has_resumed asked later end outcome rest call ran =
-    let a : Answered (Ends (Resume asked) call.before call.after) later end (outcome_view outcome) = answered (Resume asked) later end outcome call in
-    resumed_after asked later a.between (outcome_view outcome) rest a.ends ran
+    let a : Answered (Ends (Resume asked) call.before call.after) later end (outcome_as_view outcome) = answered (Resume asked) later end outcome call in
+    resumed_after asked later a.between (outcome_as_view outcome) rest a.ends ran
 
 -- ---- both
 
 -- what was read of a file stands in another one that holds the same
-told_again : (is : FileIs) (P : List ℕ → Type 0) (files later : Option Files) (name other told : List ℕ) → told_bytes files name ≡ Some told → told_bytes later other ≡ told_bytes files name → HasRead is P files name
-    → Tells is P later other
+told_again : (is : FileIs) (P : List ℕ → Type 0) (files later : Option Files) (name other told : List ℕ) → told_bytes files name ≡ Some told → told_bytes later other ≡ told_bytes files name → HasReadFile is P files name
+    → TellsFile is P later other
 told_again is P files later name other told there same has = record {
   bytes = has.bytes;
   told = same ∙ (there ∙ ap Some (sym (same_bytes is files name has.bytes told has.read there)));
@@ -219,11 +219,11 @@ one_feed files later all name other job again rows fed told same jobs was now =
 
 -- a later run with the same job, requests and rows goes on from the text that was saved
 goes_on : (job again : JobView) (requests asked : List Request) (rows fed : List Row) (files : Option Files) (save : List ℕ) (start : Begin) (first second : Done)
-    → again ≡ job → asked ≡ requests → fed ≡ rows → IsSetupFor AreSame false again asked second.ran.setup → IsStartOf files save (setup_view second.ran.setup) (length fed) start
+    → again ≡ job → asked ≡ requests → fed ≡ rows → IsSetupFor AreSame false again asked second.ran.setup → IsStartIn files save (setup_view second.ran.setup) (length fed) start
     → IsRunFromStart start second.ran.setup asked fed second → told_bytes files save ≡ Some (saved_of first) → GoesOn job requests rows second.ran.setup start first second
 goes_on job again requests asked rows fed files save start first second jobs asks feeds made starts run told =
     let setup : Setup = second.ran.setup in
-    let of_save : IsStartOf files save (setup_view setup) (length rows) start = subst (λ (l : List Row). IsStartOf files save (setup_view setup) (length l) start) feeds starts in
+    let of_save : IsStartIn files save (setup_view setup) (length rows) start = subst (λ (l : List Row). IsStartIn files save (setup_view setup) (length l) start) feeds starts in
     record {
       setup_is = subst (λ (r : List Request). IsSetupFor AreSame false job r setup) asks (subst (λ (j : JobView). IsSetupFor AreSame false j asked setup) jobs made);
       reads = told_so file.Save (λ bytes. save_of (setup_view setup) (length rows) bytes ≡ Ok start) files save (saved_of first) of_save told;

@@ -13,7 +13,7 @@ use Rattle.fries_words.specs.Words.{asked_of}
 use Rattle.live_control.specs.Asking.{AsksIs}
 use Rattle.fries_steps.specs.OneRun.{AreOneRun}
 use Rattle.fries_steps.specs.Reading.{AreRowsOf}
-use Rattle.fries_call.specs.Answers.{Answered, Ends, outcome_view}
+use Rattle.fries_call.specs.Answers.{Answered, Ends, outcome_as_view}
 use Rattle.fries_call.specs.declared.outcome.Outcome.{Outcome}
 
 -- A call of `fries` with words that ask for this. The clause `answers` of its contract says what it
@@ -24,7 +24,7 @@ pub record IsCallFor (asked : Asked) (old new : World) (outcome : Outcome) : Typ
   pub after : AsksIs
   pub words_ask : asked_of words ≡ Some asked
   pub answers : IfSome (asked_of words)
-      (λ found. Answered (Ends found before after) old new (outcome_view outcome))
+      (λ found. Answered (Ends found before after) old new (outcome_as_view outcome))
 
 -- The files are told. The second call finds the job, the requests and the payments as the first
 -- call found them, and the savepoint as the first call left it. They may have other names.

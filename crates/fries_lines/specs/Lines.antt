@@ -1,5 +1,6 @@
 -- The lines that the program prints.
-use Rattle.std.specs.Prelude.{◌==◌, ◌+◌, ℕ, Bool, true, false, List, [], ◌∷◌, ◌++◌, codes, count_by, decimal, drop, filter, is_some, length, map, slice_get, sum_by, take}
+use Rattle.std.specs.Prelude.{◌==◌, ◌+◌, ℕ, Bool, true, false, List, [], ◌∷◌, ◌++◌, codes, count_by}
+use Rattle.std.specs.Prelude.{decimal, drop, filter, is_some, length, map, slice_get, sum_by, take}
 use Rattle.std.specs.List.{enumerate_from, flat_map, join_with_byte, list_any, range_with_len}
 use Rattle.cover_planner.specs.declared.cover.Plan.{Plan}
 use Rattle.flow_dag.specs.Masks.{has}

@@ -1,7 +1,8 @@
 // The lines of requests that are refused.
 ghost use Rattle.std.specs.Prelude.{◌≡◌, ◌++◌, All, Some, IfOk, OnErr, OnOk, map, string_bytes};
 ghost use Rattle.audit_fault.specs.Noting.{IsNoted};
-ghost use Rattle.fries_lines.specs.Lines.{code_of as code_of_fault, noted as noted_as, refusal_words};
+ghost use Rattle.fries_lines.specs.Lines.{code_of as code_of_fault, noted as noted_as};
+ghost use Rattle.fries_lines.specs.Lines.{refusal_words};
 ghost use Rattle.fries_lines.specs.Lines.{refused_line as refused_line_of, refused_lines};
 
 use sink_journal::{Noted, RefusalCode};

@@ -18,7 +18,7 @@ use Rattle.fries_steps.specs.Outcomes.{EndsAfterRun, EndsStoring, StopsStoring}
 use Rattle.payments.specs.World.{ShelfState, SinkState, World, world}
 use Rattle.fries_steps.specs.Effects.{FileText, IsExcused, Prints, PrintsFault}
 use Rattle.fries_lines.specs.Faults.{limit_of}
-use Rattle.fries_steps.specs.Reading.{AreRequestsOf, AreRowsOf, FollowsFile, HasRead, IsJobOf, IsRead, IsUnread, RefusesJob, RefusesRequests, RefusesRows, RefusesSave, Tells, TellsJob, TellsRequests, TellsRows, TellsStart}
+use Rattle.fries_steps.specs.Reading.{AreRequestsOf, AreRowsOf, FollowsFile, HasReadFile, IsJobOf, IsRead, IsUnread, RefusesJob, RefusesRequests, RefusesRows, RefusesSave, TellsFile, TellsJob, TellsRequests, TellsRows, TellsStart}
 use Rattle.fries_lines.specs.declared.fault.Fault.{Fault}
 use Rattle.fries_lines.specs.declared.fault.Fault.TheVariants as fault
 use Rattle.fries_lines.specs.declared.fault.FileIs.{FileIs}
@@ -32,13 +32,13 @@ pub same_bytes : (is : FileIs) (files : Option Files) (name bytes told : List �
 same_bytes is files name bytes told read e = rw e at read.told
 
 -- a file that was read isn't too long
-pub not_long : (is : FileIs) (P : List ℕ → Type 0) (files : Option Files) (name told : List ℕ) → HasRead is P files name → told_bytes files name ≡ Some told → limit_of is < length told → ⊥
+pub not_long : (is : FileIs) (P : List ℕ → Type 0) (files : Option Files) (name told : List ℕ) → HasReadFile is P files name → told_bytes files name ≡ Some told → limit_of is < length told → ⊥
 not_long is P files name told has e above =
     let short : length told ≤ limit_of is = subst (λ (b : List ℕ). length b ≤ limit_of is) (same_bytes is files name has.bytes told has.read e) has.read.short in
     omega (arith, short, above)
 
 -- what holds of the bytes that were read holds of those that are told
-pub told_so : (is : FileIs) (P : List ℕ → Type 0) (files : Option Files) (name told : List ℕ) → HasRead is P files name → told_bytes files name ≡ Some told → P told
+pub told_so : (is : FileIs) (P : List ℕ → Type 0) (files : Option Files) (name told : List ℕ) → HasReadFile is P files name → told_bytes files name ≡ Some told → P told
 told_so is P files name told has e = subst P (same_bytes is files name has.bytes told has.read e) has.are_so
 
 -- ---- one file
@@ -52,7 +52,7 @@ follows_excused is Refuses name old new answer why = record { long = λ bytes to
 
 -- a file that was read
 pub follows_read : (is : FileIs) (P : List ℕ → Type 0) (Refuses : Fault → List ℕ → Type 0) (name : List ℕ) (old new : World) (answer : Option Fault) →
-    Apart P Refuses → HasRead is P old.shelf.files name → FollowsFile is Refuses name old new answer
+    Apart P Refuses → HasReadFile is P old.shelf.files name → FollowsFile is Refuses name old new answer
 follows_read is P Refuses name old new answer apart has = record {
   long = λ bytes told above. absurd (not_long is P old.shelf.files name bytes has told above);
   refused = λ why tells. absurd (apart why tells.bytes (told_so is P old.shelf.files name tells.bytes has tells.told) tells.are_so);
@@ -64,7 +64,7 @@ IsSole Refuses = (f g : Fault) (bytes : List ℕ) → Refuses f bytes → Refuse
 
 -- a file whose bytes are refused
 pub follows_refused : (is : FileIs) (Refuses : Fault → List ℕ → Type 0) (name : List ℕ) (old new : World) (why : Fault) →
-    IsSole Refuses → HasRead is (Refuses why) old.shelf.files name → FollowsFile is Refuses name old new (Some why)
+    IsSole Refuses → HasReadFile is (Refuses why) old.shelf.files name → FollowsFile is Refuses name old new (Some why)
 follows_refused is Refuses name old new why sole has = record {
   long = λ bytes told above. absurd (not_long is (Refuses why) old.shelf.files name bytes has told above);
   refused = λ other tells. inl (ap Some (sole why other tells.bytes (told_so is (Refuses why) old.shelf.files name tells.bytes has tells.told) tells.are_so));
@@ -93,12 +93,12 @@ follows_unread is Refuses name old between new why sole same unread = follows_re
 
 -- a file that holds what it should is refused by no fault
 pub not_refused : (is : FileIs) (P : List ℕ → Type 0) (Refuses : Fault → List ℕ → Type 0) (files : Option Files) (name : List ℕ) (why : Fault) →
-    Apart P Refuses → Tells is P files name → HasRead is (Refuses why) files name → ⊥
+    Apart P Refuses → TellsFile is P files name → HasReadFile is (Refuses why) files name → ⊥
 not_refused is P Refuses files name why apart tells has = apart why tells.bytes tells.are_so (told_so is (Refuses why) files name tells.bytes has tells.told)
 
 -- where a file holds what it should and yet wasn't read, the call is excused
 pub unread_excused : (is : FileIs) (P : List ℕ → Type 0) (Refuses : Fault → List ℕ → Type 0) (name : List ℕ) (old between new : World) (why : Fault) →
-    Apart P Refuses → Tells is P old.shelf.files name → new.shelf ≡ between.shelf → IsUnread is Refuses old.shelf.files name old.shelf.faults between.shelf.faults why → IsExcused old new (Some why)
+    Apart P Refuses → TellsFile is P old.shelf.files name → new.shelf ≡ between.shelf → IsUnread is Refuses old.shelf.files name old.shelf.faults between.shelf.faults why → IsExcused old new (Some why)
 unread_excused is P Refuses name old between new (fault.Read which) apart tells same unread = inl (inl (rose_reads old between new same unread.1.rose))
 unread_excused is P Refuses name old between new (fault.Long which) apart tells same unread =
     absurd (let above : limit_of is < length tells.bytes = rw tells.told at unread.1 in omega (arith, above, tells.short))

@@ -22,7 +22,7 @@ use Rattle.flow_model.proofs.WaitingLemmas.{length_waiting}
 use Rattle.flow_worker.specs.Parts.{WorkedIs}
 use Rattle.coordinator.specs.Boxes.{LastAtLeast}
 use Rattle.coordinator.specs.Feeding.{issue_rows}
-use Rattle.flow_engine.specs.Flown.{record_of}
+use Rattle.flow_engine.specs.Flown.{flown_record}
 use Rattle.flow_plans.specs.Determined.{NumbersAllNodes}
 use Rattle.flow_engine.specs.Recorded.{NoneIsEarly}
 use Rattle.live_control.specs.Asking.{AsksIs}
@@ -108,7 +108,7 @@ last_reaches r loads (earlier, load, are, le) = (let e : last_load loads ≡ loa
 -- what the engine and the reader leave is a live run
 pub live_of : (job : JobView) (requests : List Request) (rows : List Row) (setup left : Setup) (inbox rest : InboxIs) (feeds : List Feed) (crew : List WorkedIs) (ran : RunRecord) (done : Done) (heard : Heard) (was now : AsksIs)
     → IsSetupFor AreSame false job requests setup → IsFlownLive setup inbox rows left feeds crew rest → HasLaws left rows → AreFromSources job rows
-    → ran ≡ record_of left feeds crew → IsDoneOf ran requests rows done → IsHeard (length (judged job requests).accepted) was now heard → last_load rest.loads ≤ heard.releases
+    → ran ≡ flown_record left feeds crew → IsDoneOf ran requests rows done → IsHeard (length (judged job requests).accepted) was now heard → last_load rest.loads ≤ heard.releases
     → IsLiveRun job requests rows was now (record { done = done; heard = heard })
 live_of job requests rows setup left inbox rest feeds crew ran done heard was now is flown laws sources are of took reached =
     let feeds_are : done.ran.feeds ≡ feeds = ap (λ (r : RunRecord). r.feeds) (of.ran_is ∙ are) in

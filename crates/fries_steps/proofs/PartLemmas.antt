@@ -26,7 +26,7 @@ use Rattle.flow_model.specs.declared.setup.Setup.{Setup}
 use Rattle.flow_model.proofs.WorkerListLemmas.{length-workers_from}
 use Rattle.flow_worker.specs.Parts.{WorkedIs}
 use Rattle.flow_crew.specs.Ended.{record_of as ended}
-use Rattle.flow_engine.specs.Flown.{record_of}
+use Rattle.flow_engine.specs.Flown.{flown_record}
 use Rattle.savepoint.specs.Parts.{first_of, issued_up_to, start_of}
 use Rattle.savepoint.specs.SaveReading.{CanSave}
 use Rattle.fries_steps.proofs.AcceptedLemmas.{accepted_few, accepted_limits}
@@ -102,7 +102,7 @@ workers_of start setup requests rows ran done run of = record {
 
 -- the record of what a run on threads left is that of a run from there
 pub since_so : (start : Begin) (setup left : Setup) (rows : List Row) (feeds : List Feed) (crew : List WorkedIs) (ran : RunRecord) → left ≡ setup
-    → IsRunSince start (setup_view setup) rows (ended (setup_view setup) feeds crew) → ran ≡ record_of left feeds crew → IsRunSince start (setup_view setup) rows (record_view ran)
+    → IsRunSince start (setup_view setup) rows (ended (setup_view setup) feeds crew) → ran ≡ flown_record left feeds crew → IsRunSince start (setup_view setup) rows (record_view ran)
 since_so start setup left rows feeds crew ran same run is =
     subst (λ (r : RunRecord). IsRunSince start (setup_view setup) rows (record_view r)) (sym is)
     (subst (λ (s : Setup). IsRunSince start (setup_view setup) rows (ended (setup_view s) feeds crew)) (sym same) run)

@@ -17,7 +17,7 @@ use Rattle.flow_model.specs.declared.setup.Setup.{Setup}
 use Rattle.flow_model.proofs.WorkerListLemmas.{length-workers_from}
 use Rattle.flow_worker.specs.Parts.{WorkedIs}
 use Rattle.flow_crew.specs.Ended.{record_of as ended}
-use Rattle.flow_engine.specs.Flown.{record_of}
+use Rattle.flow_engine.specs.Flown.{flown_record}
 use Rattle.serial_order.specs.Serials.{serials}
 use Rattle.fries_steps.specs.SetupFor.{IsSetupFor}
 use Rattle.fries_steps.specs.Running.{IsDoneOf, IsRunOf, IsRunUnder}
@@ -79,6 +79,6 @@ states_of setup requests rows ran done run of =
 
 -- the record of what a run on threads left is that of a run
 pub run_so : (setup left : Setup) (rows : List Row) (feeds : List Feed) (crew : List WorkedIs) (ran : RunRecord) → left ≡ setup → IsRun (setup_view setup) rows (ended (setup_view setup) feeds crew)
-    → ran ≡ record_of left feeds crew → IsRun (setup_view setup) rows (record_view ran)
+    → ran ≡ flown_record left feeds crew → IsRun (setup_view setup) rows (record_view ran)
 run_so setup left rows feeds crew ran same run is =
     subst (λ (r : RunRecord). IsRun (setup_view setup) rows (record_view r)) (sym is) (subst (λ (s : Setup). IsRun (setup_view setup) rows (ended (setup_view s) feeds crew)) (sym same) run)

@@ -17,7 +17,7 @@ abbrev pub stopped : Fault → Answer
 stopped why = record { fault = Some why; refused = []; ran = None; start = None }
 
 -- the call stopped for such a cause; it changed no file and printed nothing
-pub record Stops (Cause : Faults → Faults → Fault → Type 0) (old new : World)
+pub record StopsFor (Cause : Faults → Faults → Fault → Type 0) (old new : World)
     (answer : Answer) : Type 0 where
   pub why : Fault
   pub answer_is : answer ≡ stopped why

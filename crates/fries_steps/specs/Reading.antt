@@ -32,7 +32,7 @@ pub record IsRead (is : FileIs) (files : Option Files) (name bytes : List ℕ) :
   pub short : length bytes ≤ limit_of is
 
 -- the bytes that were read of the file are so
-pub record HasRead (is : FileIs) (P : List ℕ → Type 0) (files : Option Files)
+pub record HasReadFile (is : FileIs) (P : List ℕ → Type 0) (files : Option Files)
     (name : List ℕ) : Type 0 where
   pub bytes : List ℕ
   pub read : IsRead is files name bytes
@@ -40,21 +40,21 @@ pub record HasRead (is : FileIs) (P : List ℕ → Type 0) (files : Option Files
 
 -- the job is that of the file
 abbrev pub IsJobOf : Option Files → List ℕ → JobView → Type 0
-IsJobOf files name job = HasRead file.Job (λ bytes. IsJobIn bytes job) files name
+IsJobOf files name job = HasReadFile file.Job (λ bytes. IsJobIn bytes job) files name
 
 -- the requests are those that the file makes of the job
 abbrev pub AreRequestsOf : Option Files → List ℕ → JobView → List Request → Type 0
-AreRequestsOf files name job requests = HasRead file.Requests
+AreRequestsOf files name job requests = HasReadFile file.Requests
     (λ bytes. requests_of job bytes ≡ Ok requests) files name
 
 -- the rows are those of the payments file of the job
 abbrev pub AreRowsOf : Option Files → List ℕ → JobView → List Row → Type 0
-AreRowsOf files name job rows = HasRead file.Payments
+AreRowsOf files name job rows = HasReadFile file.Payments
     (λ bytes. rows_of job bytes ≡ Ok rows) files name
 
 -- the beginning is that of the savepoint's file, for this setup and this number of rows
-abbrev pub IsStartOf : Option Files → List ℕ → SetupView → ℕ → Begin → Type 0
-IsStartOf files name setup rows start = HasRead file.Save
+abbrev pub IsStartIn : Option Files → List ℕ → SetupView → ℕ → Begin → Type 0
+IsStartIn files name setup rows start = HasReadFile file.Save
     (λ bytes. save_of setup rows bytes ≡ Ok start) files name
 
 -- ---- why nothing is read
@@ -90,7 +90,7 @@ IsUnread is Refuses files name old new (fault.Read which) = (which ≡ is) × Re
 IsUnread is Refuses files name old new (fault.Long which) = (which ≡ is)
     × IfSome (told_bytes files name) (λ bytes. limit_of is < length bytes) × (new ≡ old)
 IsUnread is Refuses files name old new fault.NoMemory = new ≡ old
-IsUnread is Refuses files name old new why = HasRead is (Refuses why) files name × (new ≡ old)
+IsUnread is Refuses files name old new why = HasReadFile is (Refuses why) files name × (new ≡ old)
 
 -- why the file gives no job
 abbrev pub IsNoJob : Option Files → List ℕ → Faults → Faults → Fault → Type 0
@@ -114,7 +114,7 @@ IsNoStart files name setup rows old new why = IsUnread file.Save
 -- ---- seen from a file that is told
 
 -- the file is told, isn't too long, and its bytes are so
-pub record Tells (is : FileIs) (P : List ℕ → Type 0) (files : Option Files)
+pub record TellsFile (is : FileIs) (P : List ℕ → Type 0) (files : Option Files)
     (name : List ℕ) : Type 0 where
   pub bytes : List ℕ
   pub told : told_bytes files name ≡ Some bytes
@@ -123,21 +123,21 @@ pub record Tells (is : FileIs) (P : List ℕ → Type 0) (files : Option Files)
 
 -- the file is told, and it is that of the job
 abbrev pub TellsJob : Option Files → List ℕ → JobView → Type 0
-TellsJob files name job = Tells file.Job (λ bytes. IsJobIn bytes job) files name
+TellsJob files name job = TellsFile file.Job (λ bytes. IsJobIn bytes job) files name
 
 -- the file is told, and holds these requests of the job
 abbrev pub TellsRequests : Option Files → List ℕ → JobView → List Request → Type 0
-TellsRequests files name job requests = Tells file.Requests
+TellsRequests files name job requests = TellsFile file.Requests
     (λ bytes. requests_of job bytes ≡ Ok requests) files name
 
 -- the file is told, and holds these rows of the job
 abbrev pub TellsRows : Option Files → List ℕ → JobView → List Row → Type 0
-TellsRows files name job rows = Tells file.Payments
+TellsRows files name job rows = TellsFile file.Payments
     (λ bytes. rows_of job bytes ≡ Ok rows) files name
 
 -- the file is told, and holds this beginning for the setup and this number of rows
 abbrev pub TellsStart : Option Files → List ℕ → SetupView → ℕ → Begin → Type 0
-TellsStart files name setup rows start = Tells file.Save
+TellsStart files name setup rows start = TellsFile file.Save
     (λ bytes. save_of setup rows bytes ≡ Ok start) files name
 
 -- What a file is answered by, where it is told: one that is too long by just that, and one that is
@@ -147,5 +147,5 @@ pub record FollowsFile (is : FileIs) (Refuses : Fault → List ℕ → Type 0) (
   pub long : (bytes : List ℕ) → told_bytes old.shelf.files name ≡ Some bytes
       → limit_of is < length bytes →
       (answer ≡ Some (fault.Long is)) ⊎ IsExcused old new answer
-  pub refused : (why : Fault) → Tells is (Refuses why) old.shelf.files name
+  pub refused : (why : Fault) → TellsFile is (Refuses why) old.shelf.files name
       → (answer ≡ Some why) ⊎ IsExcused old new answer

@@ -96,8 +96,8 @@ audit_files (Some name) save done = record { is = file.Audit; name = name; text 
     ∷ save_files save (saved_of done)
 
 -- the files that are written of it, in their order
-abbrev pub files_of : List ℕ → Option (List ℕ) → Option (List ℕ) → Done → List FileText
-files_of alerts audit save done =
+abbrev pub files_written : List ℕ → Option (List ℕ) → Option (List ℕ) → Done → List FileText
+files_written alerts audit save done =
     record { is = file.Alerts; name = alerts; text = alerts_of done } ∷ audit_files audit save done
 
 -- what is counted of a run: its rows, the tuples that came to sinks, and the requests, all and
@@ -129,7 +129,8 @@ pub record Runs (IsSo : Done → Type 0) (alerts : List ℕ) (audit save : Optio
     (from : Option Begin) (old new : World) (answer : Answer) : Type 0 where
   pub done : Done
   pub is_so : IsSo done
-  pub outcome : EndsAfterRun (files_of alerts audit save done) (run_lines done) old new answer.fault
+  pub outcome :
+      EndsAfterRun (files_written alerts audit save done) (run_lines done) old new answer.fault
   pub refused : answer.refused ≡ done.refused
   pub ran : answer.ran ≡ Some done.ran
   pub start : answer.start ≡ from

@@ -1,7 +1,8 @@
 ghost use Rattle.std.specs.Prelude.{◌≡◌, ◌∷◌, ◌++◌, [], IfOk, OnOk};
 ghost use Rattle.jobs.specs.Job.{job_view};
-ghost use Rattle.fries_steps.specs.FirstJob.{at_least as at_least_of, column_of, first_columns};
-ghost use Rattle.fries_steps.specs.FirstJob.{first_job as first_job_of, first_request, node_of};
+ghost use Rattle.fries_steps.specs.FirstJob.{is_at_least as at_least_of, file_column};
+ghost use Rattle.fries_steps.specs.FirstJob.{first_columns};
+ghost use Rattle.fries_steps.specs.FirstJob.{first_job as first_job_of, first_request, single_node};
 
 use flow_dag::Edge;
 use fries_words::First;
@@ -96,13 +97,13 @@ fn nodes(alloc: Global, least: i64) -> Result<NodeDefs, NoMemory>
 }
 
 fn push_node(alloc: Global, nodes: &mut NodeDefs, name: &[u8], func: Func) -> Result<(), NoMemory>
-    ensures { OnOk result (nodes.new ≡ nodes.old ++ node_of name.now func ∷ []) }
+    ensures { OnOk result (nodes.new ≡ nodes.old ++ single_node name.now func ∷ []) }
 {
     nodes.push(node(alloc, name, func)?)
 }
 
 fn column(alloc: Global, name: &[u8], kind: ColumnKind) -> Result<Column, NoMemory>
-    ensures { IfOk result (λ column. column ≡ column_of name.now kind) }
+    ensures { IfOk result (λ column. column ≡ file_column name.now kind) }
 {
     Ok(Column {
         name: Txt::from_slice(alloc, name)?,
@@ -112,7 +113,7 @@ fn column(alloc: Global, name: &[u8], kind: ColumnKind) -> Result<Column, NoMemo
 }
 
 fn node(alloc: Global, name: &[u8], func: Func) -> Result<NodeDef, NoMemory>
-    ensures { IfOk result (λ node. node ≡ node_of name.now func) }
+    ensures { IfOk result (λ node. node ≡ single_node name.now func) }
 {
     Ok(NodeDef {
         name: Txt::from_slice(alloc, name)?,

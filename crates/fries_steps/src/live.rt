@@ -13,7 +13,7 @@ ghost use Rattle.fries_steps.specs.Outcomes.{EndsAfterRun};
 ghost use Rattle.fries_steps.specs.Live.{IsLiveRun, live_fault as live_fault_of};
 ghost use Rattle.fries_steps.specs.Live.{live_lines as live_lines_of};
 ghost use Rattle.fries_steps.specs.Parts.{HasWorkers};
-ghost use Rattle.fries_steps.specs.Running.{files_of};
+ghost use Rattle.fries_steps.specs.Running.{files_written};
 ghost use Rattle.fries_steps.specs.inner.Beside.{IsFlownLive};
 ghost use Rattle.fries_lines.specs.declared.fault.Fault.{Fault as FaultIs};
 
@@ -156,7 +156,7 @@ pub fn leave_live<R: Threads + Sync, S: Shelf, O: Sink>(
 ) -> Answer
     requires { HasWorkers live.done }
     ensures outcome { (written : Option FaultIs)
-        × EndsAfterRun (files_of names.entry.alerts.now (option_copied names.entry.audit)
+        × EndsAfterRun (files_written names.entry.alerts.now (option_copied names.entry.audit)
         (option_copied names.entry.save) live.done) (live_lines_of live)
         (world (S.state shelf.old) (O.state out.old))
         (world (S.state shelf.new) (O.state out.new)) written
@@ -190,7 +190,7 @@ fn write_live<R: Threads + Sync, S: Shelf, O: Sink>(
 ) -> Result<(), Fault>
     requires { HasWorkers live.now.done }
     ensures { EndsAfterRun
-        (files_of names.entry.alerts.now (option_copied names.entry.audit)
+        (files_written names.entry.alerts.now (option_copied names.entry.audit)
         (option_copied names.entry.save) live.now.done) (live_lines_of live.now)
         (world (S.state shelf.old) (O.state out.old))
         (world (S.state shelf.new) (O.state out.new))
@@ -207,7 +207,7 @@ fn texts_of<'a, R: Threads + Sync>(
 ) -> Result<Texts<'a>, NoMemory>
     requires { HasWorkers live.now.done }
     ensures files { IfOk result (λ texts. texts.files.items ≡
-        files_of names.entry.alerts.now (option_copied names.entry.audit)
+        files_written names.entry.alerts.now (option_copied names.entry.audit)
         (option_copied names.entry.save) live.now.done) }
     ensures lines { IfOk result (λ texts. texts.lines ≡ live_lines_of live.now) }
 {

@@ -8,7 +8,7 @@ ghost use Rattle.tuple_trace.specs.declared.row.Row.{Row};
 ghost use Rattle.versions.specs.Kept.{HaveLimits};
 ghost use Rattle.flow_model.specs.Setup.{setup_view};
 ghost use Rattle.fries_steps.specs.Reading.{AreNoRequests, AreNoRows, AreRequestsOf, AreRowsOf};
-ghost use Rattle.fries_steps.specs.Reading.{IsJobOf, IsNoJob, IsNoStart, IsRead, IsStartOf};
+ghost use Rattle.fries_steps.specs.Reading.{IsJobOf, IsNoJob, IsNoStart, IsRead, IsStartIn};
 ghost use Rattle.fries_steps.specs.Reading.{IsUnread};
 
 use flow_model::{Setup, Start};
@@ -88,7 +88,7 @@ pub fn start_in<S: Shelf>(
     name: &Word,
     shelf: &mut S,
 ) -> Result<Start, Fault>
-    ensures start { IfOk result (IsStartOf (S.state shelf.old).files name.now
+    ensures start { IfOk result (IsStartIn (S.state shelf.old).files name.now
         (setup_view setup.now) rows) }
     ensures kept { OnOk result (S.state shelf.new ≡ S.state shelf.old) }
     ensures files { (S.state shelf.new).files ≡ (S.state shelf.old).files }

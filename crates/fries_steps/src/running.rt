@@ -10,7 +10,8 @@ ghost use Rattle.fries_words.specs.Asked.{IsSize};
 ghost use Rattle.fries_steps.specs.Outcomes.{EndsAfterRun};
 ghost use Rattle.payments.specs.World.{world};
 ghost use Rattle.fries_steps.specs.SetupFor.{AreSame};
-ghost use Rattle.fries_steps.specs.Running.{audit_of, files_of, run_lines as run_lines_of, saved_of};
+ghost use Rattle.fries_steps.specs.Running.{audit_of, files_written, run_lines as run_lines_of};
+ghost use Rattle.fries_steps.specs.Running.{saved_of};
 ghost use Rattle.fries_steps.specs.Running.{made_lines as made_lines_of};
 ghost use Rattle.fries_steps.specs.Running.{serial_lines as serial_lines_of};
 ghost use Rattle.fries_steps.specs.Running.{summary_of as summary_of_done, IsDoneOf, IsRunOf};
@@ -184,7 +185,7 @@ pub fn leave_run<R: Threads + Sync, S: Shelf, O: Sink>(
     requires journals { length done.ran.journals ≡ worker_count done.ran.setup.job.nodes }
     requires states { length done.ran.states ≡ worker_count done.ran.setup.job.nodes }
     ensures outcome { EndsAfterRun
-        (files_of names.entry.alerts.now (option_copied names.entry.audit)
+        (files_written names.entry.alerts.now (option_copied names.entry.audit)
         (option_copied names.entry.save) done) (run_lines_of done)
         (world (S.state shelf.old) (O.state out.old))
         (world (S.state shelf.new) (O.state out.new))
@@ -207,7 +208,7 @@ fn write_run<R: Threads + Sync, S: Shelf, O: Sink>(
     requires journals { length done.now.ran.journals ≡ worker_count done.now.ran.setup.job.nodes }
     requires states { length done.now.ran.states ≡ worker_count done.now.ran.setup.job.nodes }
     ensures { EndsAfterRun
-        (files_of names.entry.alerts.now (option_copied names.entry.audit)
+        (files_written names.entry.alerts.now (option_copied names.entry.audit)
         (option_copied names.entry.save) done.now) (run_lines_of done.now)
         (world (S.state shelf.old) (O.state out.old))
         (world (S.state shelf.new) (O.state out.new))
@@ -225,7 +226,7 @@ fn texts_of<'a, R: Threads + Sync>(
     requires journals { length done.now.ran.journals ≡ worker_count done.now.ran.setup.job.nodes }
     requires states { length done.now.ran.states ≡ worker_count done.now.ran.setup.job.nodes }
     ensures files { IfOk result (λ texts. texts.files.items ≡
-        files_of names.entry.alerts.now (option_copied names.entry.audit)
+        files_written names.entry.alerts.now (option_copied names.entry.audit)
         (option_copied names.entry.save) done.now) }
     ensures lines { IfOk result (λ texts. texts.lines ≡ run_lines_of done.now) }
 {
@@ -244,7 +245,7 @@ pub(crate) fn files_in<'a, R: Threads + Sync>(
     requires journals { length done.now.ran.journals ≡ worker_count done.now.ran.setup.job.nodes }
     requires states { length done.now.ran.states ≡ worker_count done.now.ran.setup.job.nodes }
     ensures { IfOk result (λ files. files.items ≡
-        files_of names.entry.alerts.now (option_copied names.entry.audit)
+        files_written names.entry.alerts.now (option_copied names.entry.audit)
         (option_copied names.entry.save) done.now) }
 {
     let alloc = team.alloc;

@@ -20,7 +20,7 @@ use Rattle.fries_steps.specs.Live.{AreReleased}
 use Rattle.fries_steps.specs.Running.{HaveOneOrder}
 use Rattle.fries_steps.specs.SetupFor.{IsSetupWith}
 use Rattle.fries_steps.specs.declared.running.Done.{Done}
-use Rattle.stream_intake.specs.Intake.{IsMaskOf}
+use Rattle.stream_intake.specs.Intake.{IsMaskOfNodes}
 use Rattle.fries_verify.specs.StreamSetup.{IsStreamRunOf, IsStreamSetupFor}
 use Rattle.fries_verify.specs.inner.Again.{IsAgain}
 
@@ -63,7 +63,7 @@ module _ (done again : Done) (same : IsAgain done again) where
                   made.numbers;
               mode = ap (λ (v : SetupView). v.ordered) same.view ∙ made.mode;
             });
-        splits = subst (λ (mask : ℕ). IsMaskOf job.nodes mask) (sym splits) is.splits;
+        splits = subst (λ (mask : ℕ). IsMaskOfNodes job.nodes mask) (sym splits) is.splits;
       }
 
   -- so what was run is that of the same requests and rows

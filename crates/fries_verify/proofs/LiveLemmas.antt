@@ -27,7 +27,7 @@ use Rattle.fries_steps.specs.Reading.{IsRead}
 use Rattle.fries_steps.specs.SetupFor.{AreSame, IsSetupFor, IsSetupWith}
 use Rattle.fries_steps.specs.declared.running.Done.{Done}
 use Rattle.fries_steps.proofs.FileLemmas.{same_bytes}
-use Rattle.stream_intake.specs.Intake.{IsMaskOf}
+use Rattle.stream_intake.specs.Intake.{IsMaskOfNodes}
 use Rattle.fries_verify.specs.Audits.{IsAuditedBy, IsAuditedRun, IsNoAudit, Subject}
 use Rattle.fries_verify.specs.StreamSetup.{IsStreamSetupFor}
 use Rattle.fries_verify.proofs.AuditLemmas.{IsFaultIn}
@@ -91,7 +91,7 @@ stream_waiting ordered job requests rows setup made feeds is same refused late =
           (waiting_with IsExactForStream stream_exact_waiting ordered job
           (judged_within (Some setup.splits) job requests) rows setup made feeds is.made same
           refused late);
-      splits = subst (λ (mask : ℕ). IsMaskOf job.nodes mask) (sym splits) is.splits;
+      splits = subst (λ (mask : ℕ). IsMaskOfNodes job.nodes mask) (sym splits) is.splits;
     }
 
 -- bytes that were read are refused for the fault that they have

@@ -17,7 +17,7 @@ use Rattle.tuple_trace.specs.declared.row.Row.{Row}
 use Rattle.versions.specs.declared.in_order.Refused.{Refused}
 use Rattle.fries_steps.specs.Reading.{IsRead}
 use Rattle.stream_replay.specs.Faults.{part_fault}
-use Rattle.stream_replay.specs.InParts.{AreRunInParts, Given, Records, given_by}
+use Rattle.stream_replay.specs.InParts.{AreRunInParts, Given, Records, given_in_parts}
 use Rattle.stream_replay.specs.Loose.{HasLoose, IsLooseIn}
 use Rattle.stream_replay.specs.declared.fault.PartFault.{PartFault}
 use Rattle.stream_replay.specs.declared.fault.PartFault.TheVariants as part
@@ -51,7 +51,7 @@ given_as view refused rows = record { setup = view; refused = map noted refused;
 pub given_same : (made setup : Setup) (rows : List Row) (bytes : List ℕ)
     → setup_view made ≡ (stream_subject setup rows bytes).setup
     → made.judged.refused ≡ setup.judged.refused
-    → given_by made rows ≡ given_in (stream_subject setup rows bytes)
+    → given_in_parts made rows ≡ given_in (stream_subject setup rows bytes)
 given_same made setup rows bytes view refused =
     ap (λ (v : SetupView). given_as v made.judged.refused rows) view
     ∙ ap (λ (r : List Refused). given_as (stream_subject setup rows bytes).setup r rows) refused

@@ -4,9 +4,9 @@ use Rattle.std.specs.Prelude.{IfSome, [], codes, count_by, length, map, take}
 use Rattle.jobs.specs.Job.{job_view}
 use Rattle.audit_fault.specs.declared.fault.AuditFault.{AuditFault}
 use Rattle.audit_fault.specs.declared.fault.AuditFault.TheVariants as audit
-use Rattle.audit_laws.specs.Fits.{Fits, records_of}
-use Rattle.audit_laws.specs.Verdict.{DifferFirst, IsFaultOf}
-use Rattle.fries_steps.specs.Reading.{FollowsFile, HasRead, IsUnread, Tells}
+use Rattle.audit_laws.specs.Fits.{Fits, csv_records}
+use Rattle.audit_laws.specs.Verdict.{DifferFirst, IsFirstFault}
+use Rattle.fries_steps.specs.Reading.{FollowsFile, HasReadFile, IsUnread, TellsFile}
 use Rattle.fries_steps.specs.Running.{summary_of}
 use Rattle.fries_steps.specs.declared.running.Done.{Done}
 use Rattle.flow_model.specs.Begin.{Begin, at_first}
@@ -69,7 +69,7 @@ subject_from begin setup rows records = record {
 -- a run of this setup and these rows, from the beginning of all on
 abbrev pub subject_of : Setup → List Row → List ℕ → Subject
 subject_of setup rows bytes =
-    subject_from (at_first (setup_view setup)) setup rows (records_of bytes)
+    subject_from (at_first (setup_view setup)) setup rows (csv_records bytes)
 
 -- the same of a run in which each request waits for the rows that the records show
 abbrev pub shown_subject : Setup → List Row → List (List (List ℕ)) → Subject
@@ -81,21 +81,21 @@ shown_subject setup rows records =
 
 -- a run of `live`
 abbrev pub live_subject : Setup → List Row → List ℕ → Subject
-live_subject setup rows bytes = shown_subject setup rows (records_of bytes)
+live_subject setup rows bytes = shown_subject setup rows (csv_records bytes)
 
 -- a run whose parts are put together to these records
 abbrev pub joined_subject : Setup → List Row → List ℕ → Subject
 joined_subject setup rows bytes =
-    shown_subject setup rows (together (job_view setup.job) (records_of bytes))
+    shown_subject setup rows (together (job_view setup.job) (csv_records bytes))
 
 -- a run of `stream`: that of its parts, each of which is a run by itself
 abbrev pub stream_subject : Setup → List Row → List ℕ → Subject
 stream_subject setup rows bytes =
-    record (joined_subject setup rows bytes) { parts = parts_of (records_of bytes) }
+    record (joined_subject setup rows bytes) { parts = parts_of (csv_records bytes) }
 
 -- a later part, which begins here
 abbrev pub later_subject : Begin → Setup → List Row → List ℕ → Subject
-later_subject begin setup rows bytes = subject_from begin setup rows (records_of bytes)
+later_subject begin setup rows bytes = subject_from begin setup rows (csv_records bytes)
 
 -- ---- whose audit bytes are
 
@@ -118,7 +118,7 @@ pub record IsAuditedBy (subject : Subject) (ran : Ran) : Type 0 where
 -- the records are the audit of no such run, for this fault
 abbrev pub IsFaultOn : Subject → AuditFault → Type 0
 IsFaultOn subject code =
-    IsFaultOf subject.begin subject.setup subject.order subject.refused subject.rows
+    IsFirstFault subject.begin subject.setup subject.order subject.refused subject.rows
     subject.records code
 
 -- the audit is that of a run, and this part of it, counted from 1, is the first that is no run from
@@ -143,11 +143,11 @@ RefusesAudit subject _ bytes = ⊥
 
 -- the record is the run whose audit the file holds
 abbrev pub IsAuditOf : Option Files → List ℕ → (List ℕ → Subject) → Ran → Type 0
-IsAuditOf files name subject ran = HasRead file.Audit (IsAudited subject ran) files name
+IsAuditOf files name subject ran = HasReadFile file.Audit (IsAudited subject ran) files name
 
 -- the file is told, and holds the audit of this run
 abbrev pub TellsAudit : Option Files → List ℕ → (List ℕ → Subject) → Ran → Type 0
-TellsAudit files name subject ran = Tells file.Audit (IsAudited subject ran) files name
+TellsAudit files name subject ran = TellsFile file.Audit (IsAudited subject ran) files name
 
 -- why the file gives no audit of such a run
 abbrev pub IsNoAudit :
@@ -190,7 +190,7 @@ AreStreamsShown setup rows =
     (ends : List PartEnd) (left ran : Ran) (bytes : List ℕ) →
     IsRunLive (setup_view setup) rows ran →
     IsStreamOf (given_live setup rows ran) ends left ran →
-    records_of bytes ≡ audit_header ∷ told_records (job_view setup.job)
+    csv_records bytes ≡ audit_header ∷ told_records (job_view setup.job)
     (given_live setup rows ran) ends left →
     IsAudited (stream_subject setup rows) ran bytes
 
@@ -209,7 +209,7 @@ RefusesAlerts text _ bytes = ⊥
 -- the file, if one is named, holds just this text
 abbrev pub HoldsAlerts : Option Files → Option (List ℕ) → List ℕ → Type 0
 HoldsAlerts files None text = ⊤
-HoldsAlerts files (Some name) text = HasRead file.Alerts (λ bytes. bytes ≡ text) files name
+HoldsAlerts files (Some name) text = HasReadFile file.Alerts (λ bytes. bytes ≡ text) files name
 
 -- why the file that is named doesn't hold this text, or wasn't read
 abbrev pub HoldsNoAlerts :
@@ -223,7 +223,7 @@ HoldsNoAlerts files (Some name) text old new why =
 -- the file, if one is named, is told, and holds just this text
 abbrev pub TellsAlerts : Option Files → Option (List ℕ) → List ℕ → Type 0
 TellsAlerts files None text = ⊤
-TellsAlerts files (Some name) text = Tells file.Alerts (λ bytes. bytes ≡ text) files name
+TellsAlerts files (Some name) text = TellsFile file.Alerts (λ bytes. bytes ≡ text) files name
 
 -- the answer, seen from the file, if one is named, that is to hold this text
 abbrev pub FollowsAlerts : Option (List ℕ) → List ℕ → World → World → Option Fault → Type 0

@@ -6,7 +6,7 @@ use Rattle.versions.specs.Judged.{judged_within}
 use Rattle.versions.specs.declared.request.Request.{Request}
 use Rattle.flow_model.specs.Planned.{IsExactForStream}
 use Rattle.flow_model.specs.declared.setup.Setup.{Setup}
-use Rattle.stream_intake.specs.Intake.{IsMaskOf}
+use Rattle.stream_intake.specs.Intake.{IsMaskOfNodes}
 use Rattle.fries_steps.specs.Running.{IsRunUnder}
 use Rattle.fries_steps.specs.SetupFor.{IsSetupWith}
 use Rattle.fries_steps.specs.declared.running.Done.{Done}
@@ -17,7 +17,7 @@ pub record IsStreamSetupFor (Keeps : List Request → List Request → Type 0) (
     (job : JobView) (requests : List Request) (setup : Setup) : Type 0 where
   pub made : IsSetupWith IsExactForStream Keeps ordered job
       (judged_within (Some setup.splits) job requests) setup
-  pub splits : IsMaskOf job.nodes setup.splits
+  pub splits : IsMaskOfNodes job.nodes setup.splits
 
 -- The rows were run by the setup of a stream of the job and its requests in this mode. How the
 -- requests of the record relate to those that judging accepts is told by `Keeps`.

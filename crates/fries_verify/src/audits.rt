@@ -1,6 +1,6 @@
 // The run whose audit a file holds: of `run`, of `live`, of `stream`, or of `resume`.
 ghost use Rattle.std.specs.Prelude.{◌≡◌, ◌≤◌, Bool, IfErr, IfOk, OnOk, length};
-ghost use Rattle.audit_laws.specs.Fits.{records_of};
+ghost use Rattle.audit_laws.specs.Fits.{csv_records};
 ghost use Rattle.jobs.specs.Job.{job_view};
 ghost use Rattle.jobs.specs.JobView.{JobView};
 ghost use Rattle.jobs.specs.Nodes.{AreFromSources, worker_count};
@@ -166,9 +166,9 @@ pub fn audited_stream<S: Shelf>(
 // The audit of a stream that a text holds, as that of one run.
 fn together_in(alloc: Global, job: &Job, text: &[u8]) -> Result<Bytes, AuditFault>
     ensures text { IfOk result (λ one.
-        records_of one ≡ together (job_view job.now) (records_of text.now)) }
+        csv_records one ≡ together (job_view job.now) (csv_records text.now)) }
     ensures fault { (subject : Subject) →
-        subject.records ≡ together (job_view job.now) (records_of text.now) →
+        subject.records ≡ together (job_view job.now) (csv_records text.now) →
         IfErr result (IsFaultOn subject) }
 {
     match put_together(alloc, job, text)? {
@@ -181,9 +181,9 @@ fn together_in(alloc: Global, job: &Job, text: &[u8]) -> Result<Bytes, AuditFaul
 fn shown_run(alloc: Global, setup: Setup, given: Given<'_>, text: &[u8]) -> Result<Done, AuditFault>
     requires sources { AreFromSources (job_view setup.job) given.rows.now }
     ensures audited { IfOk result (λ done. IsToldBy (shown_subject setup given.entry.rows.now
-        (records_of text.now)) (record_view done.ran)) }
+        (csv_records text.now)) (record_view done.ran)) }
     ensures only { (ran : Ran) →
-        IsToldBy (shown_subject setup given.entry.rows.now (records_of text.now)) ran →
+        IsToldBy (shown_subject setup given.entry.rows.now (csv_records text.now)) ran →
         IfOk result (λ done. record_view done.ran ≡ ran) }
     ensures refused { IfOk result (λ done.
         done.ran.setup.judged.refused ≡ setup.judged.refused) }
@@ -198,7 +198,7 @@ fn shown_run(alloc: Global, setup: Setup, given: Given<'_>, text: &[u8]) -> Resu
     ensures journals { IfOk result (λ done. length done.ran.journals
         ≡ worker_count done.ran.setup.job.nodes) }
     ensures fault { IfErr result
-        (IsFaultOn (shown_subject setup given.entry.rows.now (records_of text.now))) }
+        (IsFaultOn (shown_subject setup given.entry.rows.now (csv_records text.now))) }
 {
     given.rows.are_numbered();
     let accepted = setup.judged.accepted.as_slice();

@@ -1,10 +1,10 @@
 // The run of a stream, each part of which is a run by itself.
 ghost use Rattle.std.specs.Prelude.{◌≡◌, ◌++◌, ◌∷◌, [], IfErr, IfOk, List, Some};
-ghost use Rattle.audit_laws.specs.Fits.{records_of};
+ghost use Rattle.audit_laws.specs.Fits.{csv_records};
 ghost use Rattle.audit_parts.specs.Cut.{parts_of};
 ghost use Rattle.jobs.specs.Job.{job_view};
 ghost use Rattle.jobs.specs.Nodes.{AreFromSources};
-ghost use Rattle.stream_replay.specs.InParts.{AreRunInParts, Records, given_by};
+ghost use Rattle.stream_replay.specs.InParts.{AreRunInParts, Records, given_in_parts};
 ghost use Rattle.stream_replay.specs.Loose.{IsLooseIn};
 ghost use Rattle.fries_verify.specs.inner.Again.{IsAgain};
 
@@ -25,10 +25,10 @@ pub(crate) fn in_parts(
     requires { AreFromSources (job_view done.ran.setup.job) rows.now }
     ensures again { IfOk result (IsAgain done) }
     ensures parts { IfOk result (λ again. (earlier : List Records) (last : Records)
-        → parts_of (records_of bytes.now) ≡ Some (earlier ++ last ∷ [])
-        → AreRunInParts (given_by done.ran.setup rows.now) earlier last) }
+        → parts_of (csv_records bytes.now) ≡ Some (earlier ++ last ∷ [])
+        → AreRunInParts (given_in_parts done.ran.setup rows.now) earlier last) }
     ensures loose { IfErr result
-        (IsLooseIn (given_by done.ran.setup rows.now) (records_of bytes.now)) }
+        (IsLooseIn (given_in_parts done.ran.setup rows.now) (csv_records bytes.now)) }
 {
     let Done {
         ran,

@@ -8,7 +8,7 @@ use Rattle.std.specs.Str.{bytes_eq}
 use Rattle.clap.specs.Simple.{Shape}
 use Rattle.clap.specs.Takes.{default_passes, is_given, is_valid, level_passes, positional_passes, settle_passes, turn_passes, use_passes, walk_passes}
 use Rattle.clap.specs.Walk.{Held, Row, Rule, Text, Walk, arg_by_id, finished, has_row, is_pending, nothing_held, settled, takes_several, walk_from, walked, with_default}
-use Rattle.fries_words.specs.Form.{Flag, Form, Parts, ValueOption, at_end, found_after, has_start, is_flag, is_found, is_name, is_option, no_parts, with_extra, with_flag, with_name, with_option, with_start, with_value, with_word}
+use Rattle.fries_words.specs.Form.{Flag, Form, Parts, ValueOption, at_end, found_after, has_start, is_flag, is_found, is_plain_word, is_option, no_parts, with_extra, with_flag, with_name, with_option, with_start, with_value, with_word}
 use Rattle.fries_words.proofs.RowLemmas.{found_end, found_more, given_defaults, given_rows, has_row-rows, rows, same_bytes}
 use Rattle.fries_words.proofs.WalkLemmas.{AreNames, At, Follows, IsFlag, IsName, IsOption, IsPlainWord, Reads, Stands, Waits, WaitsAt, after_name, chosen, flag_found, option_found, plain_name, start_at, step, walked_flag, walked_joined, walked_name, walked_value, walks}
 
@@ -61,9 +61,9 @@ turn_value s w word id waits p = rw (waits.stopped, waits.trailing, waits.waitin
 -- ---- any word
 
 passes_named : (s : Shape) (w : Walk) (parts : Parts) (names extra : List Text) (id word : Text) (next : Parts) → s.args_override_self ≡ false → At s.rules w parts → IsName s.rules w.position id
-    → Settles s.rules w None → (if not (is_found id parts.found) && is_name word then Some (after_name parts names extra id word) else None) ≡ Some next → Passes s w word next.waiting
+    → Settles s.rules w None → (if not (is_found id parts.found) && is_plain_word word then Some (after_name parts names extra id word) else None) ≡ Some next → Passes s w word next.waiting
 passes_named s w parts names extra id word next again at is settles made =
-    let (none, name, same) = chosen (is_found id parts.found) (is_name word) _ next made in
+    let (none, name, same) = chosen (is_found id parts.found) (is_plain_word word) _ next made in
     let plain = plain_name word name in
     let rs = (settled s.rules w.held).rows in
     let passes : use_passes false is.rule (word ∷ []) rs ≡ true = is.passes word rs ∙ unused (has_row id rs) (lacks id rs parts.found at.held none) in
@@ -82,7 +82,7 @@ passes_name s w parts (id ∷ names) word next again at are settles made = passe
 
 passes_value : (s : Shape) (w : Walk) (parts : Parts) (id word : Text) (next : Parts) → WaitsAt s.rules w parts id → with_value parts id word ≡ Some next → Passes s w word next.waiting
 passes_value s w parts id word next at made =
-    let (none, name, same) = chosen (is_found id parts.found) (is_name word) _ next made in
+    let (none, name, same) = chosen (is_found id parts.found) (is_plain_word word) _ next made in
     let is = at.is in
     let plain = plain_name word name in
     let lacking : has_row at.o.id w.held.rows ≡ false = subst (λ (t : Text). has_row t w.held.rows ≡ false) (sym at.called) (lacks id w.held.rows parts.found at.held none) in
@@ -93,7 +93,7 @@ passes_value s w parts id word next at made =
 passes_joined : (s : Shape) (w : Walk) (parts : Parts) (o : ValueOption) (value : Text) (next : Parts) → s.args_override_self ≡ false → At s.rules w parts → IsOption s.rules o → Settles s.rules w None
     → with_value parts o.id value ≡ Some next → Passes s w (o.start ++ value) next.waiting
 passes_joined s w parts o value next again at is settles made =
-    let (none, name, same) = chosen (is_found o.id parts.found) (is_name value) _ next made in
+    let (none, name, same) = chosen (is_found o.id parts.found) (is_plain_word value) _ next made in
     let rs = (settled s.rules w.held).rows in
     let passes : use_passes false is.rule (value ∷ []) rs ≡ true = is.passes value rs ∙ unused (has_row o.id rs) (lacks o.id rs parts.found at.held none) in
     let after : settle_passes s.rules false (walked s.rules [] w (o.start ++ value)).held ≡ true = rw (walked_joined s.rules w o value is at.stands) refl in
@@ -112,7 +112,7 @@ passes_start s form w parts (Some o) word next reads again at settles is made =
 passes_switch : (s : Shape) (w : Walk) (parts : Parts) (f : Flag) (next : Parts) → s.args_override_self ≡ false → At s.rules w parts → IsFlag s.rules f → Settles s.rules w None
     → with_value parts f.id (codes "true") ≡ Some next → Passes s w f.word next.waiting
 passes_switch s w parts f next again at is settles made =
-    let (none, name, same) = chosen (is_found f.id parts.found) (is_name (codes "true")) _ next made in
+    let (none, name, same) = chosen (is_found f.id parts.found) (is_plain_word (codes "true")) _ next made in
     let rs = (settled s.rules w.held).rows in
     let passes : use_passes false is.rule [] rs ≡ true = is.passes rs ∙ unused (has_row f.id rs) (lacks f.id rs parts.found at.held none) in
     let after : settle_passes s.rules false (walked s.rules [] w f.word).held ≡ true = rw (walked_flag s.rules w f is at.stands) refl in
@@ -177,7 +177,7 @@ IsDue id parts = (has_name parts.names id ≡ true) ⊎ (is_found id parts.found
 
 due_value : (id : Text) (parts : Parts) (key value : Text) (next : Parts) → IsDue id parts → with_value parts key value ≡ Some next → IsDue id next
 due_value id parts key value next due made =
-    let (none, name, same) = chosen (is_found key parts.found) (is_name value) _ next made in
+    let (none, name, same) = chosen (is_found key parts.found) (is_plain_word value) _ next made in
     subst (IsDue id) same (elim due [
       | inl later ↦ inl later
       | inr found ↦ inr (found_more id parts.found (key, value) found)
@@ -186,7 +186,7 @@ due_value id parts key value next due made =
 due_extra : (id : Text) (parts : Parts) (extra : List Text) (word : Text) (next : Parts) → is_found id parts.found ≡ true → with_extra parts extra word ≡ Some next → IsDue id next
 due_extra id parts [] word next found made = absurd (cc made)
 due_extra id parts (key ∷ extra) word next found made =
-    let (none, name, same) = chosen (is_found key parts.found) (is_name word) _ next made in
+    let (none, name, same) = chosen (is_found key parts.found) (is_plain_word word) _ next made in
     subst (IsDue id) same (inr (found_more id parts.found (key, word) found))
 
 due_name : (id : Text) (parts : Parts) (names : List Text) (word : Text) (next : Parts) → (has_name names id ≡ true) ⊎ (is_found id parts.found ≡ true) → with_name parts names word ≡ Some next → IsDue id next
@@ -196,7 +196,7 @@ due_name id parts [] word next due made =
       | inr found ↦ due_extra id parts parts.extra word next found made
     ]
 due_name id parts (key ∷ names) word next due made =
-    let (none, name, same) = chosen (is_found key parts.found) (is_name word) _ next made in
+    let (none, name, same) = chosen (is_found key parts.found) (is_plain_word word) _ next made in
     subst (IsDue id) same (elim due [
       | inl here ↦ elim (cases_Bool (bytes_eq key id)) [
         | inl is ↦ inr (found_end id parts.found (key, word) is)

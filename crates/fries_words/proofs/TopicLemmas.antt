@@ -18,9 +18,9 @@ use Rattle.clap.proofs.WalkLemmas.{first_value-rows}
 use Rattle.clap.proofs.OnLiterals.{clap_on_literals}
 use Rattle.fries_words.specs.Apps.{program_app}
 use Rattle.fries_words.specs.Words.{Values, asked_after, asked_with, engine_in, engine_of, form_of}
-use Rattle.fries_words.specs.Words.{is_true, name_in, size_in, topic_of}
-use Rattle.fries_words.specs.Form.{Form, found_in, value_of}
-use Rattle.fries_words.specs.Stream.{SavingAsked, StreamAsked, clash_in, is_written, resume_in}
+use Rattle.fries_words.specs.Words.{is_true, value_named, size_in, topic_of}
+use Rattle.fries_words.specs.Form.{Form, found_in_words, value_of}
+use Rattle.fries_words.specs.Stream.{SavingAsked, StreamAsked, clash_in, is_written, goes_on_from}
 use Rattle.fries_words.specs.Stream.{saving_of, saving_over, stream_after, stream_over}
 use Rattle.fries_words.specs.Stream.{stream_with}
 use Rattle.fries_words.specs.declared.command.EngineSize.{EngineSize}
@@ -217,7 +217,7 @@ saving_same None v w every from resume =
     (ap₂ (λ (a b : Bool). a || b) (ap is_some from) resume))
 saving_same (Some file) v w every from resume =
     ap (option_map Some) (ap₂ (saving_over file) (ap (size_in USUAL_EVERY MAX_EVERY) every)
-    (ap₂ resume_in resume from))
+    (ap₂ goes_on_from resume from))
 
 over_same : (v w : Values) (size : Option EngineSize) (saving : Option (Option SavingAsked))
     → Agree topic.Stream v w → stream_over v size saving ≡ stream_over w size saving
@@ -242,8 +242,8 @@ stream_same v w agree =
     let alerts = agree.same (codes "alerts") refl in
     let audit = agree.same (codes "audit") refl in
     let save = agree.same (codes "save") refl in
-    let apart : bytes_eq (name_in v (codes "alerts")) (name_in v (codes "audit"))
-    ≡ bytes_eq (name_in w (codes "alerts")) (name_in w (codes "audit")) =
+    let apart : bytes_eq (value_named v (codes "alerts")) (value_named v (codes "audit"))
+    ≡ bytes_eq (value_named w (codes "alerts")) (value_named w (codes "audit")) =
     ap₂ (λ (a b : Option Text). bytes_eq (unwrap_or a []) (unwrap_or b [])) alerts audit in
     let written : is_written (v (codes "save")) v ≡ is_written (w (codes "save")) w =
     ap (λ (o : Option Text). is_written o v) save
@@ -339,7 +339,7 @@ same_rows rows found subs word e h =
     same_Some _ _ (sym h ∙ ap (option_map (λ (p : Text × List Row). p.1)) e)
 
 read_found : (about : Topic) (ws : List Text) (pairs : List (Text × Text)) (f : Found)
-    (subs : Option (Text × List Row)) → about ≢ topic.Program → found_in (form_of about) ws
+    (subs : Option (Text × List Row)) → about ≢ topic.Program → found_in_words (form_of about) ws
     ≡ Some pairs
     → subs ≡ subcommand_of program_app (word_of about ∷ ws) → option_map (λ p. p.1) subs
     ≡ Some (rows_of f)
@@ -372,7 +372,7 @@ topic_first words word rest about split is = rw split at is
 module _ {A : Type 0} (about : Topic) (asked : Values → Option A)
     (asked-same : (v w : Values) → Agree about v w → asked v ≡ asked w) where
   found_or : (ws : List Text) (o : Option (List (Text × Text))) (f : Found)
-      (subs : Option (Text × List Row)) → about ≢ topic.Program → found_in (form_of about) ws ≡ o
+      (subs : Option (Text × List Row)) → about ≢ topic.Program → found_in_words (form_of about) ws ≡ o
       → is_some o ≡ true
       → subs ≡ subcommand_of program_app (word_of about ∷ ws) → option_map (λ p. p.1) subs
       ≡ Some (rows_of f)
@@ -384,29 +384,29 @@ module _ {A : Type 0} (about : Topic) (asked : Values → Option A)
 
   -- what clap's values ask for is what the words ask for
   read_words : (word : Text) (ws : List Text) (f : Found) (subs : Option (Text × List Row))
-      → topic_of word ≡ Some about → is_some (found_in (form_of about) ws) ≡ true
+      → topic_of word ≡ Some about → is_some (found_in_words (form_of about) ws) ≡ true
       → subs ≡ subcommand_of program_app (word ∷ ws) → option_map (λ p. p.1) subs ≡ Some (rows_of f)
       → asked (first_value f) ≡ option_and_then (λ pairs. asked (value_of pairs))
-      (found_in (form_of about) ws)
+      (found_in_words (form_of about) ws)
   read_words word ws f subs is some given rows_are =
       let (same, real) = word_is word about is in
-      found_or ws (found_in (form_of about) ws) f subs real refl some (rw same at given) rows_are
+      found_or ws (found_in_words (form_of about) ws) f subs real refl some (rw same at given) rows_are
 
   -- what clap's values ask for is what the words behind the first ask for
   behind_first : (words : List (Bor Text)) (form : Form) (app : App) (f : Found)
       (subs : Option (Text × List Row)) → 1 ≤ length words
       → IfSome (slice_get (texts words) 0) (λ word. topic_of word ≡ Some about) → form
-      ≡ form_of about → is_some (found_in form (texts (take (length words - 1) (drop 1 words))))
+      ≡ form_of about → is_some (found_in_words form (texts (take (length words - 1) (drop 1 words))))
       ≡ true
       → app ≡ program_app → subs ≡ subcommand_of app (texts words) → option_map (λ p. p.1) subs
       ≡ Some (rows_of f)
       → asked (first_value f) ≡ option_and_then (λ pairs. asked (value_of pairs))
-      (found_in (form_of about) (drop 1 (texts words)))
+      (found_in_words (form_of about) (drop 1 (texts words)))
   behind_first words form app f subs some named form_is found app_is given rows_are =
       let split = texts-split words some in
       read_words (get_or words 0 no_text).now (drop 1 (texts words)) f subs
       (topic_first words _ (drop 1 (texts words)) about split named)
-      (ap is_some (ap₂ found_in (sym form_is) (sym (texts-behind words))) ∙ found)
+      (ap is_some (ap₂ found_in_words (sym form_is) (sym (texts-behind words))) ∙ found)
       (given ∙ (ap (λ (a : App). subcommand_of a (texts words)) app_is
       ∙ ap (subcommand_of program_app) split))
       rows_are
@@ -415,7 +415,7 @@ module _ {A : Type 0} (about : Topic) (asked : Values → Option A)
 pub asked_words : (about : Topic) (words : List (Bor Text)) (form : Form) (app : App) (f : Found)
     (subs : Option (Text × List Row)) → 1 ≤ length words
     → IfSome (slice_get (texts words) 0) (λ word. topic_of word ≡ Some about) → form ≡ form_of about
-    → is_some (found_in form (texts (take (length words - 1) (drop 1 words)))) ≡ true
+    → is_some (found_in_words form (texts (take (length words - 1) (drop 1 words)))) ≡ true
     → app ≡ program_app → subs ≡ subcommand_of app (texts words) → option_map (λ p. p.1) subs
     ≡ Some (rows_of f)
     → asked_with about (first_value f) ≡ asked_after about (drop 1 (texts words))
@@ -425,7 +425,7 @@ asked_words about = behind_first about (asked_with about) (asked_same about)
 pub stream_words : (words : List (Bor Text)) (form : Form) (app : App) (f : Found)
     (subs : Option (Text × List Row)) → 1 ≤ length words
     → IfSome (slice_get (texts words) 0) (λ word. topic_of word ≡ Some topic.Stream) → form
-    ≡ form_of topic.Stream → is_some (found_in form
+    ≡ form_of topic.Stream → is_some (found_in_words form
     (texts (take (length words - 1) (drop 1 words)))) ≡ true
     → app ≡ program_app → subs ≡ subcommand_of app (texts words) → option_map (λ p. p.1) subs
     ≡ Some (rows_of f)

@@ -17,7 +17,7 @@ use Rattle.clap.specs.declared.parser.matches.ArgMatches.TheViews.{out-ArgMatche
 use Rattle.clap.specs.declared.parser.matches.SubCommand.{SubCommand}
 use Rattle.clap.proofs.OnLiterals.{clap_on_literals}
 use Rattle.fries_words.specs.Apps.{program_app}
-use Rattle.fries_words.specs.Form.{Form, found_in}
+use Rattle.fries_words.specs.Form.{Form, found_in_words}
 use Rattle.fries_words.specs.Views.{texts}
 use Rattle.fries_words.specs.Words.{form_of, topic_of}
 use Rattle.fries_words.specs.declared.topic.Topic.{Topic}
@@ -281,7 +281,7 @@ TakesAt words stop =
     (is_some (entered (built program_app) stop))) ≡ true
 
 takes_found : (about : Topic) (ws : List Text) (o : Option (List (Text × Text)))
-    → about ≢ topic.Program → found_in (form_of about) ws ≡ o → is_some o ≡ true
+    → about ≢ topic.Program → found_in_words (form_of about) ws ≡ o → is_some o ≡ true
     → takes program_app (word_of about ∷ ws) ≡ true
 unfolding clap_on_literals
 takes_found about ws None real found some = absurd (false≢true some)
@@ -305,7 +305,7 @@ takes_found about ws (Some pairs) real found some =
 -- the program takes the words of each full form
 pub takes_words : (about : Topic) (words : List (Bor Text)) (form : Form) → 1 ≤ length words
     → IfSome (slice_get (texts words) 0) (λ word. topic_of word ≡ Some about) → form ≡ form_of about
-    → is_some (found_in form (texts (take (length words - 1) (drop 1 words)))) ≡ true
+    → is_some (found_in_words form (texts (take (length words - 1) (drop 1 words)))) ≡ true
     → takes program_app (texts words) ≡ true
 takes_words about words form some named form_is found =
     let split = texts-split words some in
@@ -314,8 +314,8 @@ takes_words about words form some named form_is found =
     word_is word about (topic_first words _ (drop 1 (texts words)) about split named) in
     let is : takes program_app (word_of about ∷ drop 1 (texts words)) ≡ true =
     takes_found about (drop 1 (texts words))
-    (found_in (form_of about) (drop 1 (texts words))) real refl
-    (ap is_some (ap₂ found_in (sym form_is) (sym (texts-behind words))) ∙ found) in
+    (found_in_words (form_of about) (drop 1 (texts words))) real refl
+    (ap is_some (ap₂ found_in_words (sym form_is) (sym (texts-behind words))) ∙ found) in
     let whole : texts words ≡ word_of about ∷ drop 1 (texts words) =
     split ∙ ap (λ (t : Text). t ∷ drop 1 (texts words)) same in
     subst (λ (ts : List Text). takes program_app ts ≡ true) (sym whole) is

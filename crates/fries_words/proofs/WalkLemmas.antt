@@ -10,7 +10,7 @@ use Rattle.clap.specs.Takes.{use_passes}
 use Rattle.clap.specs.Walk.{Held, Row, Rule, Text, Walk, arg_by_id, arg_by_index, arg_by_long, has_row, idle, is_multiple, is_pending, most_values, next_position, nothing_held, option, positional_held, rows_after, settled, takes_several, takes_values, used, walk_from, walked, with_default, with_values, without}
 use Rattle.clap.specs.declared.builder.value_parser.Reading.TheVariants.{AsWritten}
 use Rattle.clap.specs.declared.parser.matches.ValueSource.TheVariants.{CommandLine}
-use Rattle.fries_words.specs.Form.{Flag, Form, Parts, ValueOption, at_end, found_after, has_start, is_flag, is_found, is_name, is_option, no_parts, with_extra, with_flag, with_name, with_option, with_start, with_value, with_word}
+use Rattle.fries_words.specs.Form.{Flag, Form, Parts, ValueOption, at_end, found_after, has_start, is_flag, is_found, is_plain_word, is_option, no_parts, with_extra, with_flag, with_name, with_option, with_start, with_value, with_word}
 use Rattle.fries_words.proofs.RowLemmas.{rows, rows-more, same_bytes}
 
 -- ---- words that are no flags
@@ -23,7 +23,7 @@ pub record IsPlainWord (word : Text) : Type 0 where
 plain_from : (b : ℕ) (rest : Text) → (b == 45) ≡ false → IsPlainWord (b ∷ rest)
 plain_from b rest other = record { dashes = rw other refl; long = rw other refl; short = rw other refl }
 
-pub plain_name : (word : Text) → is_name word ≡ true → IsPlainWord word
+pub plain_name : (word : Text) → is_plain_word word ≡ true → IsPlainWord word
 plain_name [] name = absurd (cc name)
 plain_name (b ∷ rest) name = plain_from b rest (not-true (b == 45) name)
 
@@ -191,10 +191,10 @@ after_name parts names extra id word = record { names = names; extra = extra; wa
 
 -- a name, where these are left
 step_named : (rules : List Rule) (w : Walk) (parts : Parts) (names extra : List Text) (id word : Text) (next : Parts) → Stands w → IsName rules w.position id → AreNames rules (w.position + 1) (names ++ extra)
-    → (settled rules w.held).rows ≡ rows parts.found → (if not (is_found id parts.found) && is_name word then Some (after_name parts names extra id word) else None) ≡ Some next
+    → (settled rules w.held).rows ≡ rows parts.found → (if not (is_found id parts.found) && is_plain_word word then Some (after_name parts names extra id word) else None) ≡ Some next
     → Follows rules (walked rules [] w word) next next.waiting
 step_named rules w parts names extra id word next stands is are held made =
-    let (none, name, same) = chosen (is_found id parts.found) (is_name word) _ next made in
+    let (none, name, same) = chosen (is_found id parts.found) (is_plain_word word) _ next made in
     let after : Parts = after_name parts names extra id word in
     let now : At rules (between (next_position is.rule w.position) (record (settled rules w.held) { pending = Some (is.rule.id, word ∷ []) })) after = record {
       stands = record { waiting = refl; trailing = refl; stopped = refl };
@@ -219,7 +219,7 @@ step_name rules w parts (id ∷ names) word next stands are held made = step_nam
 step_value : (rules : List Rule) (w : Walk) (parts : Parts) (id word : Text) (next : Parts) → WaitsAt rules w parts id → with_value parts id word ≡ Some next
     → Follows rules (walked rules [] w word) next next.waiting
 step_value rules w parts id word next at made =
-    let (none, name, same) = chosen (is_found id parts.found) (is_name word) _ next made in
+    let (none, name, same) = chosen (is_found id parts.found) (is_plain_word word) _ next made in
     let is = at.is in
     let after : Parts = after_name parts parts.names parts.extra id word in
     let now : At rules (between w.position (record w.held { pending = Some (is.rule.id, word ∷ []) })) after = record {
@@ -247,7 +247,7 @@ step_used : (rules : List Rule) (w : Walk) (parts : Parts) (id value word : Text
     → walked rules [] w word ≡ between w.position (record { rows = used rule given (settled rules w.held).rows; pending = None; skip = w.held.skip })
     → with_value parts id value ≡ Some next → Follows rules (walked rules [] w word) next next.waiting
 step_used rules w parts id value word next rule given at use_of is_walked made =
-    let (none, name, same) = chosen (is_found id parts.found) (is_name value) _ next made in
+    let (none, name, same) = chosen (is_found id parts.found) (is_plain_word value) _ next made in
     let after : Parts = after_name parts parts.names parts.extra id value in
     let now : At rules (between w.position (record { rows = used rule given (settled rules w.held).rows; pending = None; skip = w.held.skip })) after = record {
       stands = record { waiting = refl; trailing = refl; stopped = refl };

@@ -45,9 +45,9 @@ no_parts form =
     record { names = form.names; extra = form.extra; waiting = None; found = [] }
 
 -- a name or a value isn't empty and doesn't begin with a dash
-abbrev pub is_name : Text → Bool
-is_name [] = false
-is_name (byte ∷ rest) = not (byte == 45)
+abbrev pub is_plain_word : Text → Bool
+is_plain_word [] = false
+is_plain_word (byte ∷ rest) = not (byte == 45)
 
 -- there is a value for the name or option
 abbrev pub is_found : Text → List (Text × Text) → Bool
@@ -72,7 +72,7 @@ is_flag word flag = bytes_eq word flag.word
 -- the parts with a value for an option or a flag that has none yet
 abbrev pub with_value : Parts → Text → Text → Option Parts
 with_value parts id value =
-    if not (is_found id parts.found) && is_name value then
+    if not (is_found id parts.found) && is_plain_word value then
     Some (record {
       names = parts.names;
       extra = parts.extra;
@@ -85,7 +85,7 @@ with_value parts id value =
 abbrev pub with_extra : Parts → List Text → Text → Option Parts
 with_extra parts [] word = None
 with_extra parts (id ∷ extra) word =
-    if not (is_found id parts.found) && is_name word then
+    if not (is_found id parts.found) && is_plain_word word then
     Some (record {
       names = [];
       extra = extra;
@@ -98,7 +98,7 @@ with_extra parts (id ∷ extra) word =
 abbrev pub with_name : Parts → List Text → Text → Option Parts
 with_name parts [] word = with_extra parts parts.extra word
 with_name parts (id ∷ names) word =
-    if not (is_found id parts.found) && is_name word then
+    if not (is_found id parts.found) && is_plain_word word then
     Some (record {
       names = names;
       extra = parts.extra;
@@ -141,5 +141,5 @@ found_after form parts (word ∷ words) =
 
 -- What is found in the words after a command, if they have its form. Each option stands at most
 -- once, at any place, as two words or as one.
-abbrev pub found_in : Form → List Text → Option (List (Text × Text))
-found_in form words = found_after form (no_parts form) words
+abbrev pub found_in_words : Form → List Text → Option (List (Text × Text))
+found_in_words form words = found_after form (no_parts form) words

@@ -3,10 +3,10 @@ use Rattle.std.specs.Prelude.{◌||◌, ℕ, Bool, true, false, is_some, List, [
 use Rattle.std.specs.Prelude.{Some, option_and_then, option_map, codes, if◌then◌else◌}
 use Rattle.std.specs.Str.{bytes_eq}
 use Rattle.tuple_trace.specs.Digits.{at_most, digits_of}
-use Rattle.fries_words.specs.Form.{Text, found_in, value_of}
+use Rattle.fries_words.specs.Form.{Text, found_in_words, value_of}
 use Rattle.fries_words.specs.Asked.{PlanAsked, plan_asked}
-use Rattle.fries_words.specs.Words.{Values, asks_help, engine_in, form_of, is_true, name_in}
-use Rattle.fries_words.specs.Words.{plan_of, size_in}
+use Rattle.fries_words.specs.Words.{Values, asks_help, engine_in, form_of, is_true, value_named}
+use Rattle.fries_words.specs.Words.{plan_in, size_in}
 use Rattle.fries_words.specs.declared.command.EngineSize.{EngineSize}
 use Rattle.fries_words.specs.declared.stream.StreamFiles.{StreamFiles}
 use Rattle.fries_words.specs.declared.stream.StreamSaving.{StreamSaving}
@@ -60,9 +60,9 @@ left_out (Some text) = at_most MAX_FROM (digits_of text)
 
 -- whether a stream goes on, and how many rows it has left out then; a stream that begins anew
 -- leaves out none
-abbrev pub resume_in : Bool → Option Text → Option (Option ℕ)
-resume_in true from = option_map Some (left_out from)
-resume_in false from = if is_some from then None else Some None
+abbrev pub goes_on_from : Bool → Option Text → Option (Option ℕ)
+goes_on_from true from = option_map Some (left_out from)
+goes_on_from false from = if is_some from then None else Some None
 
 -- what is saved to this file
 abbrev pub saving_over : Text → Option ℕ → Option (Option ℕ) → Option SavingAsked
@@ -82,19 +82,19 @@ abbrev pub saving_of : Option Text → Values → Option (Option SavingAsked)
 saving_of None values = if needs_save values then None else Some None
 saving_of (Some file) values =
     option_map Some (saving_over file (size_in USUAL_EVERY MAX_EVERY (values (codes "every")))
-    (resume_in (is_true (values (codes "resume"))) (values (codes "from"))))
+    (goes_on_from (is_true (values (codes "resume"))) (values (codes "from"))))
 
 -- the savepoint is a file that is written anyhow
 abbrev pub is_written : Option Text → Values → Bool
 is_written None values = false
 is_written (Some save) values =
-    bytes_eq (name_in values (codes "alerts")) save
-    || bytes_eq (name_in values (codes "audit")) save
+    bytes_eq (value_named values (codes "alerts")) save
+    || bytes_eq (value_named values (codes "audit")) save
 
 -- two of the files that a stream writes are one word
 abbrev pub clash_in : Values → Bool
 clash_in values =
-    bytes_eq (name_in values (codes "alerts")) (name_in values (codes "audit"))
+    bytes_eq (value_named values (codes "alerts")) (value_named values (codes "audit"))
     || is_written (values (codes "save")) values
 
 -- the stream of this size that the values name
@@ -104,9 +104,9 @@ stream_over values None saving = None
 stream_over values (Some size) None = None
 stream_over values (Some size) (Some saving) =
     Some (record {
-      plan = plan_of values;
-      alerts = name_in values (codes "alerts");
-      audit = name_in values (codes "audit");
+      plan = plan_in values;
+      alerts = value_named values (codes "alerts");
+      audit = value_named values (codes "audit");
       size = size;
       exact = is_true (values (codes "exact"));
       saving = saving;
@@ -130,7 +130,8 @@ is_stream (word ∷ words) =
 -- what the words after `stream` ask for, if they have its full form
 abbrev pub stream_after : List Text → Option StreamAsked
 stream_after words =
-    option_and_then (λ found. stream_with (value_of found)) (found_in (form_of topic.Stream) words)
+    option_and_then (λ found. stream_with (value_of found))
+    (found_in_words (form_of topic.Stream) words)
 
 -- what words ask of a stream. None if they ask for none.
 abbrev pub stream_of : List Text → Option StreamAsked

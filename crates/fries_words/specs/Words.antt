@@ -5,7 +5,7 @@ use Rattle.std.specs.Prelude.{codes}
 use Rattle.std.specs.Prelude.{if◌then◌else◌}
 use Rattle.std.specs.Str.{bytes_eq}
 use Rattle.tuple_trace.specs.Digits.{at_most, digits_of}
-use Rattle.fries_words.specs.Form.{Flag, Form, Text, ValueOption, found_in, value_of}
+use Rattle.fries_words.specs.Form.{Flag, Form, Text, ValueOption, found_in_words, value_of}
 use Rattle.fries_words.specs.declared.command.AuditOf.{AuditOf}
 use Rattle.fries_words.specs.declared.command.AuditOf.TheVariants as audit
 use Rattle.fries_words.specs.declared.command.EngineSize.{EngineSize}
@@ -141,12 +141,12 @@ abbrev pub Values : Type 0
 Values = Text → Option Text
 
 -- the value of a name, which every full form has
-abbrev pub name_in : Values → Text → Text
-name_in values id = unwrap_or (values id) []
+abbrev pub value_named : Values → Text → Text
+value_named values id = unwrap_or (values id) []
 
 -- the number in digits of a name
 abbrev pub number_in : Values → ℕ → Text → Option ℕ
-number_in values most id = at_most most (digits_of (name_in values id))
+number_in values most id = at_most most (digits_of (value_named values id))
 
 -- an amount in cents, in digits
 abbrev pub amount_in : Values → Text → Option ℤ
@@ -185,18 +185,18 @@ with_numbers payments alerts (Some least) None least_after = None
 with_numbers payments alerts (Some least) (Some after) None = None
 
 -- what the values of `first` ask for
-abbrev pub first_of : Values → Option FirstAsked
-first_of values =
-    with_numbers (name_in values (codes "payments")) (name_in values (codes "alerts"))
+abbrev pub first_in : Values → Option FirstAsked
+first_in values =
+    with_numbers (value_named values (codes "payments")) (value_named values (codes "alerts"))
     (amount_in values (codes "min"))
     (number_in values after_max (codes "after"))
     (amount_in values (codes "min2"))
 
 -- the files of a plan and its mode: ordered where the flag is there
-abbrev pub plan_of : Values → PlanAsked
-plan_of values = record {
-  job = name_in values (codes "job");
-  requests = name_in values (codes "requests");
+abbrev pub plan_in : Values → PlanAsked
+plan_in values = record {
+  job = value_named values (codes "job");
+  requests = value_named values (codes "requests");
   ordered = is_true (values (codes "ordered"));
 }
 
@@ -225,10 +225,10 @@ run_over plan exact payments alerts audit size =
     })
 
 -- the files of a plan that isn't in ordered mode
-abbrev pub unordered_of : Values → PlanAsked
-unordered_of values = record {
-  job = name_in values (codes "job");
-  requests = name_in values (codes "requests");
+abbrev pub unordered_in : Values → PlanAsked
+unordered_in values = record {
+  job = value_named values (codes "job");
+  requests = value_named values (codes "requests");
   ordered = false;
 }
 
@@ -236,8 +236,8 @@ unordered_of values = record {
 abbrev pub run_with : PlanAsked → Values → Option RunAsked
 run_with plan values =
     option_and_then (run_over plan (is_true (values (codes "exact")))
-    (name_in values (codes "payments")) (name_in values (codes "alerts"))
-    (name_in values (codes "audit")))
+    (value_named values (codes "payments")) (value_named values (codes "alerts"))
+    (value_named values (codes "audit")))
     (engine_in values)
 
 -- The command that wrote an audit, by `--ordered`, `--live`, `--stream`, whether alerts are named,
@@ -257,23 +257,23 @@ audit_by false true stream named (Some save) = None
 audit_by true live stream named (Some save) = None
 
 -- the command that wrote the audit of `verify`
-abbrev pub audit_of : Values → Option AuditOf
-audit_of values =
+abbrev pub audit_in : Values → Option AuditOf
+audit_in values =
     audit_by (is_true (values (codes "ordered"))) (is_true (values (codes "live")))
     (is_true (values (codes "stream"))) (is_some (values (codes "alerts")))
     (values (codes "save"))
 
 -- the files of a run, its audit, the file of its alerts if that is named, and which command wrote
 -- the audit
-abbrev pub verify_of : Values → Option VerifyAsked
-verify_of values =
+abbrev pub verify_in : Values → Option VerifyAsked
+verify_in values =
     option_map (λ (of : AuditOf). record {
-      plan = plan_of values;
-      payments = name_in values (codes "payments");
-      audit = name_in values (codes "audit");
+      plan = plan_in values;
+      payments = value_named values (codes "payments");
+      audit = value_named values (codes "audit");
       alerts = values (codes "alerts");
       of = of;
-    }) (audit_of values)
+    }) (audit_in values)
 
 -- the run writes a file with this name
 abbrev pub writes : RunAsked → Text → Bool
@@ -284,10 +284,10 @@ abbrev pub resume_with : Text → RunAsked → Option ResumeAsked
 resume_with save run = if writes run save then None else Some (record { run = run; save = save })
 
 -- what the values of `resume` ask for
-abbrev pub resume_of : Values → Option ResumeAsked
-resume_of values =
-    option_and_then (resume_with (name_in values (codes "save")))
-    (run_with (unordered_of values) values)
+abbrev pub resume_in : Values → Option ResumeAsked
+resume_in values =
+    option_and_then (resume_with (value_named values (codes "save")))
+    (run_with (unordered_in values) values)
 
 -- the run and the savepoint with the number of rows, if that is in range
 abbrev pub save_with : Option ResumeAsked → Option ℕ → Option SaveAsked
@@ -296,8 +296,8 @@ save_with files (Some rows) =
     option_map (λ (of : ResumeAsked). record { run = of.run; save = of.save; rows = rows }) files
 
 -- what the values of `save` ask for
-abbrev pub save_of : Values → Option SaveAsked
-save_of values = save_with (resume_of values) (number_in values after_max (codes "rows"))
+abbrev pub save_in : Values → Option SaveAsked
+save_in values = save_with (resume_in values) (number_in values after_max (codes "rows"))
 
 -- a job file and three numbers, which are in range, and the mode
 abbrev pub make_with : Text → Option ℕ → Option ℕ → Option ℕ → Bool → Option MakeAsked
@@ -308,9 +308,9 @@ make_with job (Some seed) None threads ordered = None
 make_with job (Some seed) (Some rows) None ordered = None
 
 -- what the values of `make` ask for
-abbrev pub make_of : Values → Option MakeAsked
-make_of values =
-    make_with (name_in values (codes "job"))
+abbrev pub make_in : Values → Option MakeAsked
+make_in values =
+    make_with (value_named values (codes "job"))
     (number_in values (2 ^ 64 - 1) (codes "seed"))
     (number_in values (2 ^ 32 - 1) (codes "rows"))
     (size_in 1 MAX_THREADS (values (codes "threads")))
@@ -344,21 +344,22 @@ topic_of word =
 -- what the values of a command ask for that ends; a stream may not
 abbrev pub asked_with : Topic → Values → Option Asked
 asked_with topic.Program values = None
-asked_with topic.First values = option_map First (first_of values)
-asked_with topic.Check values = Some (Check (name_in values (codes "job")))
-asked_with topic.Plan values = Some (Plan (plan_of values))
-asked_with topic.Run values = option_map Run (run_with (plan_of values) values)
-asked_with topic.Make values = option_map Make (make_of values)
-asked_with topic.Save values = option_map Save (save_of values)
-asked_with topic.Resume values = option_map Resume (resume_of values)
-asked_with topic.Live values = option_map Live (run_with (unordered_of values) values)
-asked_with topic.Verify values = option_map Verify (verify_of values)
+asked_with topic.First values = option_map First (first_in values)
+asked_with topic.Check values = Some (Check (value_named values (codes "job")))
+asked_with topic.Plan values = Some (Plan (plan_in values))
+asked_with topic.Run values = option_map Run (run_with (plan_in values) values)
+asked_with topic.Make values = option_map Make (make_in values)
+asked_with topic.Save values = option_map Save (save_in values)
+asked_with topic.Resume values = option_map Resume (resume_in values)
+asked_with topic.Live values = option_map Live (run_with (unordered_in values) values)
+asked_with topic.Verify values = option_map Verify (verify_in values)
 asked_with topic.Stream values = None
 
 -- what the words after a command ask for, if they have its full form
 abbrev pub asked_after : Topic → List Text → Option Asked
 asked_after about words =
-    option_and_then (λ found. asked_with about (value_of found)) (found_in (form_of about) words)
+    option_and_then (λ found. asked_with about (value_of found))
+    (found_in_words (form_of about) words)
 
 -- the only word asks for help or for the version
 abbrev pub asked_alone : Text → Option Asked

@@ -2,9 +2,10 @@
 ghost use Rattle.std.specs.Prelude.{◌≡◌, ◌≤◌, true, IfOk, IfSome, option_map, option_copied};
 ghost use Rattle.std.specs.Prelude.{length, find, is_some, map, take};
 ghost use Rattle.std.specs.Str.{bytes_eq};
-ghost use Rattle.fries_words.specs.Form.{at_end, found_after, found_in, has_start as has_start_of};
+ghost use Rattle.fries_words.specs.Form.{at_end, found_after, found_in_words};
+ghost use Rattle.fries_words.specs.Form.{has_start as has_start_of};
 ghost use Rattle.fries_words.specs.Form.{is_flag as is_flag_of, is_found as is_found_in};
-ghost use Rattle.fries_words.specs.Form.{is_name as is_name_of, is_option as is_option_of};
+ghost use Rattle.fries_words.specs.Form.{is_plain_word as is_name_of, is_option as is_option_of};
 ghost use Rattle.fries_words.specs.Form.{no_parts, with_name as with_name_of};
 ghost use Rattle.fries_words.specs.Form.{with_value as with_value_of, with_word};
 ghost use Rattle.fries_words.specs.Views.{flag_view, form_view, if_taken, option_view, pair_view};
@@ -16,7 +17,8 @@ use tuple_trace::NoMemory;
 
 /// Whether the words after a command have its form.
 pub(crate) fn has_form(alloc: Global, form: &Form, words: &[&str]) -> Result<bool, NoMemory>
-    ensures { IfOk result (λ has. has ≡ is_some (found_in (form_view form.now) (texts words.now))) }
+    ensures { IfOk result (λ has. has
+        ≡ is_some (found_in_words (form_view form.now) (texts words.now))) }
 {
     let mut parts = Parts {
         names: form.names,

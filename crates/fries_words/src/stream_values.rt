@@ -4,7 +4,7 @@ ghost use Rattle.std.specs.Prelude.{option_map, true};
 ghost use Rattle.clap.specs.Words.{first_value, found_of};
 ghost use Rattle.fries_words.specs.Asked.{IsSize};
 ghost use Rattle.fries_words.specs.Stream.{clash_in, needs_save};
-ghost use Rattle.fries_words.specs.Stream.{resume_in as resume_of, saving_asked, saving_of};
+ghost use Rattle.fries_words.specs.Stream.{goes_on_from as resume_of, saving_asked, saving_of};
 ghost use Rattle.fries_words.specs.Stream.{stream_asked, stream_with as stream_with_values};
 
 use crate::stream::{MAX_EVERY, MAX_FROM, USUAL_EVERY};

@@ -8,16 +8,16 @@ ghost use Rattle.fries_words.specs.Asked.{first_asked, make_asked, plan_asked, r
 ghost use Rattle.fries_words.specs.Asked.{run_asked, save_asked, verify_asked};
 ghost use Rattle.fries_words.specs.Words.{amount_in as amount_of, asked_with};
 ghost use Rattle.fries_words.specs.Words.{audit_by as audit_by_words};
-ghost use Rattle.fries_words.specs.Words.{audit_of as audit_of_values};
-ghost use Rattle.fries_words.specs.Words.{engine_in as engine_of, first_of as first_of_values};
+ghost use Rattle.fries_words.specs.Words.{audit_in as audit_of_values};
+ghost use Rattle.fries_words.specs.Words.{engine_in as engine_of, first_in as first_of_values};
 ghost use Rattle.fries_words.specs.Words.{is_true as is_true_text};
-ghost use Rattle.fries_words.specs.Words.{make_of as make_of_values, name_in as name_of};
-ghost use Rattle.fries_words.specs.Words.{number_in as number_of, plan_of as plan_of_values};
-ghost use Rattle.fries_words.specs.Words.{resume_of as resume_of_values};
+ghost use Rattle.fries_words.specs.Words.{make_in as make_of_values, value_named as name_of};
+ghost use Rattle.fries_words.specs.Words.{number_in as number_of, plan_in as plan_of_values};
+ghost use Rattle.fries_words.specs.Words.{resume_in as resume_of_values};
 ghost use Rattle.fries_words.specs.Words.{run_over, run_with as run_with_values};
-ghost use Rattle.fries_words.specs.Words.{save_of as save_of_values, size_in as size_of};
-ghost use Rattle.fries_words.specs.Words.{unordered_of as unordered_of_values};
-ghost use Rattle.fries_words.specs.Words.{verify_of as verify_of_values};
+ghost use Rattle.fries_words.specs.Words.{save_in as save_of_values, size_in as size_of};
+ghost use Rattle.fries_words.specs.Words.{unordered_in as unordered_of_values};
+ghost use Rattle.fries_words.specs.Words.{verify_in as verify_of_values};
 
 use crate::{
     AuditOf, Command, EngineSize, First, Make, PlanFiles, ResumeFiles, RunFiles, SaveFiles, Topic,

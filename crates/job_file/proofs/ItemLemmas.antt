@@ -6,14 +6,14 @@ use Rattle.toml.specs.View.{items_view, view}
 use Rattle.toml.specs.declared.value.Value.{Value}
 use Rattle.toml.proofs.Views.{items_view-drop}
 use Rattle.job_file.specs.declared.fault.FormFault.{FormFault}
-use Rattle.job_file.specs.Document.{all_of, before}
+use Rattle.job_file.specs.Document.{all_of, item_before}
 
 -- what was read, and then what is read of the rest
 abbrev pub after : {A : Type 0} → List A → Result (List A) FormFault → Result (List A) FormFault
 after xs (Ok later) = Ok (xs ++ later)
 after xs (Err fault) = Err fault
 
-pub after-before : {A : Type 0} (xs : List A) (x : A) (later : Result (List A) FormFault) → after xs (before (Ok x) later) ≡ after (xs ++ x ∷ []) later
+pub after-before : {A : Type 0} (xs : List A) (x : A) (later : Result (List A) FormFault) → after xs (item_before (Ok x) later) ≡ after (xs ++ x ∷ []) later
 after-before xs x (Ok later) = ap Ok (sym (append_assoc xs (x ∷ []) later))
 after-before xs x (Err fault) = refl
 

@@ -1,5 +1,6 @@
 -- The changes of a request.
-use Rattle.std.specs.Prelude.{ℕ, pos, List, [], ◌∷◌, codes, int_lt, nat_abs, Result, Ok, Err, if◌then◌else◌}
+use Rattle.std.specs.Prelude.{ℕ, pos, List, [], ◌∷◌, codes, int_lt, nat_abs, Result, Ok, Err}
+use Rattle.std.specs.Prelude.{if◌then◌else◌}
 use Rattle.toml.specs.Data.{Data, Members, get_member}
 use Rattle.keyed_state.specs.declared.carry.Carry.{Carry}
 use Rattle.keyed_state.specs.declared.carry.Carry.TheVariants as carry
@@ -10,7 +11,7 @@ use Rattle.job_file.specs.declared.fault.FormFault.{FormFault}
 use Rattle.job_file.specs.declared.fault.FormFault.TheVariants as fault
 use Rattle.job_file.specs.declared.fault.Part.TheVariants as part
 use Rattle.job_file.specs.Carries.{carry_of}
-use Rattle.job_file.specs.Document.{and_then, read_or, table_of, text_at, whole_at}
+use Rattle.job_file.specs.Document.{and_then, read_or, table_of, text_of_key, whole_of_key}
 use Rattle.job_file.specs.Funcs.{func_in}
 use Rattle.job_file.specs.Kinds.{kind_in}
 use Rattle.job_file.specs.Names.{node_named}
@@ -18,7 +19,7 @@ use Rattle.job_file.specs.Names.{node_named}
 -- the version that a change was written for
 abbrev pub from_in : Members → Result ℕ FormFault
 from_in ms =
-    and_then (whole_at (codes "from") part.From ms)
+    and_then (whole_of_key (codes "from") part.From ms)
     (λ z. if int_lt z (pos 0) then Err (fault.Shape part.From) else Ok (nat_abs z))
 
 -- the keys of a change beside those of its function
@@ -42,7 +43,7 @@ change_with job name from f c =
 -- the change of a table: its node, the version that it was written for, its function and its carry
 abbrev pub change_in : JobView → Members → Result Change FormFault
 change_in job ms =
-    and_then (text_at (codes "node") part.Node ms) (λ name.
+    and_then (text_of_key (codes "node") part.Node ms) (λ name.
     and_then (from_in ms) (λ from.
     and_then (func_of_change job ms) (λ f.
     and_then (carry_in ms) (change_with job name from f))))

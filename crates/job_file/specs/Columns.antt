@@ -1,5 +1,6 @@
 -- The columns of a job, each written as NAME:KIND or NAME:KIND:own.
-use Rattle.std.specs.Prelude.{ℕ, List, codes, Bool, true, false, ◌==◌, Option, None, Some, Result, Ok, Err, if◌then◌else◌}
+use Rattle.std.specs.Prelude.{ℕ, List, codes, Bool, true, false, ◌==◌, Option, None, Some, Result}
+use Rattle.std.specs.Prelude.{Ok, Err, if◌then◌else◌}
 use Rattle.std.specs.List.{after_first, before_first}
 use Rattle.std.specs.Str.{bytes_eq}
 use Rattle.toml.specs.Data.{Data}

@@ -1,8 +1,10 @@
 -- What is taken from the tree of a TOML document, by its form alone.
-use Rattle.std.specs.Prelude.{ℕ, ℤ, List, [], ◌∷◌, Bool, true, ◌&&◌, ◌||◌, Option, Some, None, Result, Ok, Err, ok_or, if◌then◌else◌}
+use Rattle.std.specs.Prelude.{ℕ, ℤ, List, [], ◌∷◌, Bool, true, ◌&&◌, ◌||◌, Option, Some, None}
+use Rattle.std.specs.Prelude.{Result, Ok, Err, ok_or, if◌then◌else◌}
 use Rattle.std.specs.List.{list_any}
 use Rattle.std.specs.Str.{bytes_eq, is_utf8}
-use Rattle.toml.specs.Data.{Data, Items, no_items, item, Members, no_members, member, as_array, as_integer, as_str, as_table, get_member}
+use Rattle.toml.specs.Data.{Data, Items, no_items, item, Members, no_members, member, as_array}
+use Rattle.toml.specs.Data.{as_integer, as_str, as_table, get_member}
 use Rattle.toml.specs.Parse.{parse_document}
 use Rattle.job_file.specs.declared.fault.FormFault.{FormFault}
 use Rattle.job_file.specs.declared.fault.FormFault.TheVariants as fault
@@ -42,20 +44,20 @@ abbrev pub table_of : Part → Data → Result Members FormFault
 table_of part d = ok_or (as_table d) (fault.Shape part)
 
 -- the value at a key that is needed
-abbrev pub value_at : List ℕ → Part → Members → Result Data FormFault
-value_at key part ms = ok_or (get_member key ms) (fault.Shape part)
+abbrev pub value_of_key : List ℕ → Part → Members → Result Data FormFault
+value_of_key key part ms = ok_or (get_member key ms) (fault.Shape part)
 
 -- the text at a key that is needed
-abbrev pub text_at : List ℕ → Part → Members → Result (List ℕ) FormFault
-text_at key part ms = and_then (value_at key part ms) (text_of part)
+abbrev pub text_of_key : List ℕ → Part → Members → Result (List ℕ) FormFault
+text_of_key key part ms = and_then (value_of_key key part ms) (text_of part)
 
 -- the whole number at a key that is needed
-abbrev pub whole_at : List ℕ → Part → Members → Result ℤ FormFault
-whole_at key part ms = and_then (value_at key part ms) (whole_of part)
+abbrev pub whole_of_key : List ℕ → Part → Members → Result ℤ FormFault
+whole_of_key key part ms = and_then (value_of_key key part ms) (whole_of part)
 
 -- the array at a key that is needed
-abbrev pub items_at : List ℕ → Part → Members → Result Items FormFault
-items_at key part ms = and_then (value_at key part ms) (items_of part)
+abbrev pub items_of_key : List ℕ → Part → Members → Result Items FormFault
+items_of_key key part ms = and_then (value_of_key key part ms) (items_of part)
 
 -- what is read of a value, or this where there is none
 abbrev pub read_or : {A : Type 0} → A → (Data → Result A FormFault) → Option Data
@@ -72,14 +74,14 @@ abbrev pub optional_items_at : List ℕ → Part → Members → Result Items Fo
 optional_items_at key part ms = read_or no_items (items_of part) (get_member key ms)
 
 -- one more before a list, or the first fault
-abbrev pub before : {A : Type 0} → Result A FormFault → Result (List A) FormFault
+abbrev pub item_before : {A : Type 0} → Result A FormFault → Result (List A) FormFault
     → Result (List A) FormFault
-before (Err fault) later = Err fault
-before (Ok first) (Err fault) = Err fault
-before (Ok first) (Ok later) = Ok (first ∷ later)
+item_before (Err fault) later = Err fault
+item_before (Ok first) (Err fault) = Err fault
+item_before (Ok first) (Ok later) = Ok (first ∷ later)
 
 -- what is read of each item, or the first fault
 unfoldable pub all_of : {A : Type 0} → (Data → Result A FormFault) → Items
     → Result (List A) FormFault
 all_of read no_items = Ok []
-all_of read (item d ds) = before (read d) (all_of read ds)
+all_of read (item d ds) = item_before (read d) (all_of read ds)

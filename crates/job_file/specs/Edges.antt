@@ -1,12 +1,13 @@
 -- The edges of a job.
-use Rattle.std.specs.Prelude.{ℕ, ℤ, pos, List, [], ◌∷◌, codes, int_lt, Result, Ok, Err, if◌then◌else◌}
+use Rattle.std.specs.Prelude.{ℕ, ℤ, pos, List, [], ◌∷◌, codes, int_lt, Result, Ok, Err}
+use Rattle.std.specs.Prelude.{if◌then◌else◌}
 use Rattle.toml.specs.Data.{Data, Members}
 use Rattle.flow_dag.specs.declared.edge.Edge.{Edge}
 use Rattle.jobs.specs.declared.func.NodeDef.{NodeDef}
 use Rattle.job_file.specs.declared.fault.FormFault.{FormFault}
 use Rattle.job_file.specs.declared.fault.FormFault.TheVariants as fault
 use Rattle.job_file.specs.declared.fault.Part.TheVariants as part
-use Rattle.job_file.specs.Document.{and_then, has_only, optional_whole_at, table_of, text_at}
+use Rattle.job_file.specs.Document.{and_then, has_only, optional_whole_at, table_of, text_of_key}
 use Rattle.job_file.specs.Names.{node_named}
 use Rattle.job_file.specs.Numbers.{nearest}
 
@@ -20,8 +21,8 @@ edge_with nodes from to port =
 abbrev pub edge_in : List NodeDef → Members → Result Edge FormFault
 edge_in nodes ms =
     if has_only (codes "from" ∷ codes "to" ∷ codes "port" ∷ []) [] ms then
-    and_then (text_at (codes "from") part.From ms) (λ from.
-    and_then (text_at (codes "to") part.To ms) (λ to.
+    and_then (text_of_key (codes "from") part.From ms) (λ from.
+    and_then (text_of_key (codes "to") part.To ms) (λ to.
     and_then (optional_whole_at (codes "port") part.Port (pos 0) ms) (edge_with nodes from to)))
     else Err (fault.Shape part.Unknown)
 

@@ -15,7 +15,8 @@ use Rattle.job_file.specs.declared.fault.Part.TheVariants as part
 use Rattle.jobs.specs.declared.kind.Kind.{Kind}
 use Rattle.jobs.specs.declared.kind.Kind.TheVariants as kind
 use Rattle.job_file.specs.Conds.{cond_of}
-use Rattle.job_file.specs.Document.{all_of, and_then, has_only, items_at, text_at, text_of, value_at, whole_at}
+use Rattle.job_file.specs.Document.{all_of, and_then, has_only, items_of_key, text_of_key, text_of}
+use Rattle.job_file.specs.Document.{value_of_key, whole_of_key}
 use Rattle.job_file.specs.Literals.{literal_of, operand_of}
 use Rattle.job_file.specs.Names.{column_named, table_named}
 use Rattle.job_file.specs.Numbers.{nearest}
@@ -24,20 +25,20 @@ use Rattle.job_file.specs.Steps.{step_of}
 -- the number of the column that is named at a key
 abbrev pub column_at : List Column → List ℕ → Part → Members → Result ℕ FormFault
 column_at columns key place ms =
-    and_then (text_at key place ms) (λ name. Ok (column_named columns name))
+    and_then (text_of_key key place ms) (λ name. Ok (column_named columns name))
 
 -- the number of the table that is named at a key
 abbrev pub table_at : List Table → List ℕ → Part → Members → Result ℕ FormFault
 table_at tables key place ms =
-    and_then (text_at key place ms) (λ name. Ok (table_named tables name))
+    and_then (text_of_key key place ms) (λ name. Ok (table_named tables name))
 
 -- the literal at a key
 abbrev pub literal_at : List ℕ → Part → Members → Result Value FormFault
-literal_at key place ms = and_then (value_at key place ms) (literal_of place)
+literal_at key place ms = and_then (value_of_key key place ms) (literal_of place)
 
 -- the operand at a key: a whole number, or the column of a name
 abbrev pub operand_at : List Column → List ℕ → Part → Members → Result Operand FormFault
-operand_at columns key place ms = and_then (value_at key place ms) (operand_of columns place)
+operand_at columns key place ms = and_then (value_of_key key place ms) (operand_of columns place)
 
 -- a text of exactly one byte
 abbrev pub byte_of : Part → List ℕ → Result ℕ FormFault
@@ -46,18 +47,18 @@ byte_of place _ = Err (fault.Shape place)
 
 -- the byte at a key, whose text has exactly one
 abbrev pub byte_at : List ℕ → Part → Members → Result ℕ FormFault
-byte_at key place ms = and_then (text_at key place ms) (byte_of place)
+byte_at key place ms = and_then (text_of_key key place ms) (byte_of place)
 
 -- the conditions of a filter
 abbrev pub filter_in : List Column → Members → Result Func FormFault
 filter_in columns ms =
-    and_then (items_at (codes "when") part.When ms) (λ items.
+    and_then (items_of_key (codes "when") part.When ms) (λ items.
     and_then (all_of (cond_of columns) items) (λ conds. Ok (func.Filter conds)))
 
 -- the steps of a map
 abbrev pub map_in : List Column → Members → Result Func FormFault
 map_in columns ms =
-    and_then (items_at (codes "steps") part.Steps ms) (λ items.
+    and_then (items_of_key (codes "steps") part.Steps ms) (λ items.
     and_then (all_of (step_of columns) items) (λ steps. Ok (func.Map steps)))
 
 -- the enrich with these parts
@@ -93,7 +94,7 @@ abbrev pub split_in : List Column → Members → Result Func FormFault
 split_in columns ms =
     and_then (column_at columns (codes "on") part.On ms) (λ on.
     and_then (byte_at (codes "by") part.By ms) (λ by.
-    and_then (whole_at (codes "most") part.Most ms) (split_with on by)))
+    and_then (whole_of_key (codes "most") part.Most ms) (split_with on by)))
 
 -- the columns that a sink lists
 abbrev pub listed_of : List Column → Data → Result ℕ FormFault
@@ -102,7 +103,7 @@ listed_of columns d = and_then (text_of part.Columns d) (λ name. Ok (column_nam
 -- the sink of a table, with the columns that it lists
 abbrev pub sink_in : List Column → Members → Result Func FormFault
 sink_in columns ms =
-    and_then (items_at (codes "columns") part.Columns ms) (λ items.
+    and_then (items_of_key (codes "columns") part.Columns ms) (λ items.
     and_then (all_of (listed_of columns) items) (λ listed. Ok (func.Sink listed)))
 
 -- the function of a kind

@@ -10,14 +10,15 @@ use Rattle.job_file.specs.declared.fault.FormFault.{FormFault}
 use Rattle.job_file.specs.declared.fault.FormFault.TheVariants as fault
 use Rattle.job_file.specs.declared.fault.Part.TheVariants as part
 use Rattle.job_file.specs.Columns.{column_of}
-use Rattle.job_file.specs.Document.{all_of, and_then, has_only, items_at, optional_items_at, read_or, table_of}
+use Rattle.job_file.specs.Document.{all_of, and_then, has_only, items_of_key, optional_items_at}
+use Rattle.job_file.specs.Document.{read_or, table_of}
 use Rattle.job_file.specs.Edges.{edge_of}
 use Rattle.job_file.specs.Nodes.{node_of}
 use Rattle.job_file.specs.Tables.{tables_of}
 
 -- the columns of a file
 abbrev pub columns_in : Members → Result (List Column) FormFault
-columns_in ms = and_then (items_at (codes "columns") part.Columns ms) (all_of column_of)
+columns_in ms = and_then (items_of_key (codes "columns") part.Columns ms) (all_of column_of)
 
 -- the tables of a file: none if it has no such key
 abbrev pub tables_in : Members → Result (List Table) FormFault
@@ -27,7 +28,7 @@ tables_in ms =
 -- the nodes of a file
 abbrev pub nodes_in : List Column → List Table → Members → Result (List NodeDef) FormFault
 nodes_in columns tables ms =
-    and_then (items_at (codes "node") part.Node ms) (all_of (node_of columns tables))
+    and_then (items_of_key (codes "node") part.Node ms) (all_of (node_of columns tables))
 
 -- the edges of a file: none if it has no such key
 abbrev pub edges_in : List NodeDef → Members → Result (List Edge) FormFault

@@ -1,5 +1,6 @@
 -- Names, and the numbers that they stand for.
-use Rattle.std.specs.Prelude.{ℕ, List, length, take, position, Bool, ◌&&◌, ◌||◌, min, nat_le, nat_eq, ◌==◌, Option, None, Some}
+use Rattle.std.specs.Prelude.{ℕ, List, length, take, position, Bool, ◌&&◌, ◌||◌, min, nat_le}
+use Rattle.std.specs.Prelude.{nat_eq, ◌==◌, Option, None, Some}
 use Rattle.std.specs.Char.{is_ascii_digit, is_ascii_lowercase}
 use Rattle.std.specs.Cmp.Lexicographic.{pointwise}
 use Rattle.std.specs.List.{list_all}
@@ -24,9 +25,9 @@ abbrev pub nowhere : ℕ
 nowhere = 4294967295
 
 -- a place as a number
-abbrev pub number_of : Option ℕ → ℕ
-number_of None = nowhere
-number_of (Some place) = min place nowhere
+abbrev pub place_number : Option ℕ → ℕ
+place_number None = nowhere
+place_number (Some place) = min place nowhere
 
 -- how many columns or nodes are searched for a name; a lawful job has no more
 abbrev pub searched_max : ℕ
@@ -47,12 +48,12 @@ table_place tables name = position (λ table. pointwise nat_eq table.name name) 
 
 -- the number of the first column with this name, or `nowhere`
 abbrev pub column_named : List Column → List ℕ → ℕ
-column_named columns name = number_of (column_place columns name)
+column_named columns name = place_number (column_place columns name)
 
 -- the number of the first node with this name, or `nowhere`
 abbrev pub node_named : List NodeDef → List ℕ → ℕ
-node_named nodes name = number_of (node_place nodes name)
+node_named nodes name = place_number (node_place nodes name)
 
 -- the number of the first table with this name, or `nowhere`
 abbrev pub table_named : List Table → List ℕ → ℕ
-table_named tables name = number_of (table_place tables name)
+table_named tables name = place_number (table_place tables name)

@@ -1,5 +1,6 @@
 -- The nodes of a job.
-use Rattle.std.specs.Prelude.{ℕ, ℤ, pos, List, [], ◌∷◌, codes, nat_lt, Result, Ok, Err, if◌then◌else◌}
+use Rattle.std.specs.Prelude.{ℕ, ℤ, pos, List, [], ◌∷◌, codes, nat_lt, Result, Ok, Err}
+use Rattle.std.specs.Prelude.{if◌then◌else◌}
 use Rattle.toml.specs.Data.{Data, Members}
 use Rattle.jobs.specs.Nodes.{fan_out}
 use Rattle.jobs.specs.declared.column.Column.{Column}
@@ -11,7 +12,7 @@ use Rattle.jobs.specs.Kinds.{are_free, row_of}
 use Rattle.job_file.specs.declared.fault.FormFault.{FormFault}
 use Rattle.job_file.specs.declared.fault.FormFault.TheVariants as fault
 use Rattle.job_file.specs.declared.fault.Part.TheVariants as part
-use Rattle.job_file.specs.Document.{and_then, optional_whole_at, table_of, text_at}
+use Rattle.job_file.specs.Document.{and_then, optional_whole_at, table_of, text_of_key}
 use Rattle.job_file.specs.Funcs.{func_in}
 use Rattle.job_file.specs.Kinds.{kind_in}
 use Rattle.job_file.specs.Names.{is_name}
@@ -30,7 +31,7 @@ beside_of kind =
 -- the name of a node
 abbrev pub name_in : Members → Result (List ℕ) FormFault
 name_in ms =
-    and_then (text_at (codes "name") part.Name ms)
+    and_then (text_of_key (codes "name") part.Name ms)
     (λ name. if is_name name then Ok name else Err (fault.Shape part.Name))
 
 -- the node with these parts

@@ -8,7 +8,8 @@ use Rattle.job_file.specs.declared.fault.FormFault.{FormFault}
 use Rattle.job_file.specs.declared.fault.FormFault.TheVariants as fault
 use Rattle.job_file.specs.declared.fault.Part.TheVariants as part
 use Rattle.job_file.specs.Changes.{change_of}
-use Rattle.job_file.specs.Document.{all_of, and_then, has_only, optional_items_at, table_of, whole_at}
+use Rattle.job_file.specs.Document.{all_of, and_then, has_only, optional_items_at, table_of}
+use Rattle.job_file.specs.Document.{whole_of_key}
 use Rattle.job_file.specs.Numbers.{nearest}
 
 -- the changes of a request
@@ -24,7 +25,7 @@ request_with after changes = Ok (record { after = nearest after; changes = chang
 abbrev pub request_in : JobView → Members → Result Request FormFault
 request_in job ms =
     if has_only (codes "after" ∷ codes "change" ∷ []) [] ms then
-    and_then (whole_at (codes "after") part.After ms) (λ after.
+    and_then (whole_of_key (codes "after") part.After ms) (λ after.
     and_then (changes_in job ms) (request_with after))
     else Err (fault.Shape part.Unknown)
 

@@ -8,7 +8,7 @@ use Rattle.jobs.specs.declared.table.Table.{Table}
 use Rattle.job_file.specs.declared.fault.FormFault.{FormFault}
 use Rattle.job_file.specs.declared.fault.FormFault.TheVariants as fault
 use Rattle.job_file.specs.declared.fault.Part.TheVariants as part
-use Rattle.job_file.specs.Document.{and_then, before, table_of}
+use Rattle.job_file.specs.Document.{and_then, item_before, table_of}
 use Rattle.job_file.specs.Literals.{literal_of}
 use Rattle.job_file.specs.Names.{is_name}
 
@@ -33,4 +33,4 @@ named_table name d =
 -- all tables, in the order of the keys
 unfoldable pub tables_of : Members → Result (List Table) FormFault
 tables_of no_members = Ok []
-tables_of (member name d ms) = before (named_table name d) (tables_of ms)
+tables_of (member name d ms) = item_before (named_table name d) (tables_of ms)

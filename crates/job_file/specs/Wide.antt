@@ -1,5 +1,6 @@
 -- Numbers of a file that a job has no room for. Each is outside of its limit.
-use Rattle.std.specs.Prelude.{ℕ, ℤ, pos, List, codes, Bool, ◌||◌, int_lt, Option, Some, None, option_and_then, Result, Ok, Err, if◌then◌else◌}
+use Rattle.std.specs.Prelude.{ℕ, ℤ, pos, List, codes, Bool, ◌||◌, int_lt, Option, Some, None}
+use Rattle.std.specs.Prelude.{option_and_then, Result, Ok, Err, if◌then◌else◌}
 use Rattle.std.specs.Option.{option_or}
 use Rattle.toml.specs.Data.{Data, Items, no_items, item, Members, as_integer, get_member}
 use Rattle.jobs.specs.declared.fault.Which.{Which}

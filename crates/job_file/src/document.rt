@@ -5,10 +5,10 @@ ghost use Rattle.std.specs.List.{list_all, list_any};
 ghost use Rattle.std.specs.Str.{bytes_eq};
 ghost use Rattle.toml.specs.Data.{get_member};
 ghost use Rattle.toml.specs.View.{items_view, table_view, view};
-ghost use Rattle.job_file.specs.Document.{document_of, has_only, items_at as items_of_key};
+ghost use Rattle.job_file.specs.Document.{document_of, has_only, items_of_key};
 ghost use Rattle.job_file.specs.Document.{items_of, optional_items_at, table_of};
-ghost use Rattle.job_file.specs.Document.{text_at as text_of_key, text_of};
-ghost use Rattle.job_file.specs.Document.{whole_at as whole_of_key, whole_of, optional_whole_at};
+ghost use Rattle.job_file.specs.Document.{text_of_key, text_of};
+ghost use Rattle.job_file.specs.Document.{whole_of_key, whole_of, optional_whole_at};
 
 use crate::fault::{FormFault, Part};
 use std::alloc::Global;

@@ -1,7 +1,8 @@
 ghost use Rattle.std.specs.Prelude.{◌≡◌};
 ghost use Rattle.std.specs.List.{list_all};
 ghost use Rattle.job_file.specs.Names.{column_named, column_place, is_name, is_name_byte};
-ghost use Rattle.job_file.specs.Names.{node_named, node_place, number_of, table_named, table_place};
+ghost use Rattle.job_file.specs.Names.{node_named, node_place, place_number, table_named};
+ghost use Rattle.job_file.specs.Names.{table_place};
 
 use jobs::{Column, NOWHERE, NodeDef, Table};
 
@@ -79,7 +80,7 @@ fn table_place(tables: &[Table], name: &[u8]) -> Option<usize>
 }
 
 fn number_of(place: Option<usize>) -> u32
-    ensures { result ≡ number_of place }
+    ensures { result ≡ place_number place }
 {
     match place {
         Some(place) => u32::try_from(place).unwrap_or(NOWHERE),

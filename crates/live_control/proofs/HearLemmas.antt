@@ -3,7 +3,7 @@ use Rattle.std.proofs.Common.{◌≡◌, ℕ, ◌+◌, ◌≤◌, ◌<◌, true,
 use Rattle.std.proofs.lemmas.List.{length-append}
 use Rattle.std.specs.Io.KnownBytes.{Consumes, IsAtEnd, Keeps}
 use Rattle.tuple_trace.specs.Counts.{Rose}
-use Rattle.live_control.specs.Asking.{AsksIs, IsTaken}
+use Rattle.live_control.specs.Asking.{AsksIs, IsFirstByteTaken}
 use Rattle.live_control.specs.Hearing.{IsHeard, line_feeds, most_bytes, releases_of}
 use Rattle.live_control.specs.declared.hearing.Heard.{Heard}
 
@@ -62,11 +62,11 @@ front_same : (xs ys : List ℕ) (a b : ℕ) → xs ++ a ∷ [] ≡ ys ++ b ∷ [
 front_same xs ys a b e = sym (front-snoc xs a) ∙ (ap front e ∙ front-snoc ys b)
 
 -- what a call takes that gives a byte, and one that gives none
-pub taken_some : (answer : Option ℕ) (byte : ℕ) (old new : AsksIs) → answer ≡ Some byte → IsTaken answer old new → Consumes old.left new.left (byte ∷ [])
-taken_some answer byte old new is taken = subst (λ a. IsTaken a old new) is taken
+pub taken_some : (answer : Option ℕ) (byte : ℕ) (old new : AsksIs) → answer ≡ Some byte → IsFirstByteTaken answer old new → Consumes old.left new.left (byte ∷ [])
+taken_some answer byte old new is taken = subst (λ a. IsFirstByteTaken a old new) is taken
 
-pub taken_none : (answer : Option ℕ) (old new : AsksIs) → answer ≡ None → IsTaken answer old new → Keeps old.left new.left × IsAtEnd new.left
-taken_none answer old new is taken = subst (λ a. IsTaken a old new) is taken
+pub taken_none : (answer : Option ℕ) (old new : AsksIs) → answer ≡ None → IsFirstByteTaken answer old new → Keeps old.left new.left × IsAtEnd new.left
+taken_none answer old new is taken = subst (λ a. IsFirstByteTaken a old new) is taken
 
 -- a reader that has taken so many bytes, and none in vain
 pub record IsHearing (most count : ℕ) (old new : AsksIs) (releases : ℕ) : Type 0 where

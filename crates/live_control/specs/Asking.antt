@@ -13,37 +13,37 @@ pub record AsksIs : Type 0 where
   pub faults : ℕ
 
 -- If the bytes are told, a call takes the first byte alone, and `None` comes at the end.
-abbrev pub IsTaken : Option ℕ → AsksIs → AsksIs → Type 0
-IsTaken (Some byte) old new = Consumes old.left new.left (byte ∷ [])
-IsTaken None old new = Keeps old.left new.left × IsAtEnd new.left
+abbrev pub IsFirstByteTaken : Option ℕ → AsksIs → AsksIs → Type 0
+IsFirstByteTaken (Some byte) old new = Consumes old.left new.left (byte ∷ [])
+IsFirstByteTaken None old new = Keeps old.left new.left × IsAtEnd new.left
 
 -- What a call for the next byte returns and leaves. A failure takes nothing, and is counted.
 abbrev pub IsNext : Result (Option ℕ) Failed → AsksIs → AsksIs → Type 0
-IsNext (Ok byte) old new = IsTaken byte old new × (new.faults ≡ old.faults)
+IsNext (Ok byte) old new = IsFirstByteTaken byte old new × (new.faults ≡ old.faults)
 IsNext (Err fault) old new = Keeps old.left new.left × Rose old.faults new.faults
 
 -- the first byte, if there is one
-abbrev pub first_of : List ℕ → Option ℕ
-first_of [] = None
-first_of (byte ∷ more) = Some byte
+abbrev pub byte_taken : List ℕ → Option ℕ
+byte_taken [] = None
+byte_taken (byte ∷ more) = Some byte
 
 -- an input in memory: its bytes that are left, and which of its calls are to fail
-abbrev pub left_of : MemoryAsks → List ℕ
-left_of asks = drop asks.taken asks.bytes
+abbrev pub asking_left : MemoryAsks → List ℕ
+asking_left asks = drop asks.taken asks.bytes
 
-abbrev pub plan_of : MemoryAsks → Plan
-plan_of asks = record { failing = asks.failing; calls = asks.calls }
+abbrev pub asking_plan : MemoryAsks → Plan
+asking_plan asks = record { failing = asks.failing; calls = asks.calls }
 
-abbrev pub faults_of : MemoryAsks → ℕ
-faults_of asks = asks.faults
+abbrev pub asking_faults : MemoryAsks → ℕ
+asking_faults asks = asks.faults
 
 -- what an input in memory answers
 abbrev pub outcome_view : MemoryAsks → Result (Option ℕ) Failed
-outcome_view asks = unless_due (plan_of asks) (record {}) (Ok (first_of (left_of asks)))
+outcome_view asks = unless_due (asking_plan asks) (record {}) (Ok (byte_taken (asking_left asks)))
 
 -- an input in memory tells its bytes
-abbrev pub memory_state_of : MemoryAsks → AsksIs
-memory_state_of asks = record { left = Some (left_of asks); faults = asks.faults }
+abbrev pub asking_state : MemoryAsks → AsksIs
+asking_state asks = record { left = Some (asking_left asks); faults = asks.faults }
 
 -- the standard input tells what its reader tells
 abbrev pub in_faults_of : {I : Type 0} → StdIn I → ℕ

@@ -1,6 +1,7 @@
 ghost use Rattle.std.specs.Prelude.{◌≡◌};
 ghost use Rattle.payments.specs.Memory.{after_call};
-ghost use Rattle.live_control.specs.Asking.{IsNext, outcome_view, faults_of, left_of, plan_of};
+ghost use Rattle.live_control.specs.Asking.{IsNext, outcome_view, asking_faults, asking_left};
+ghost use Rattle.live_control.specs.Asking.{asking_plan};
 
 use crate::{Asks, Failed};
 use payments::Calls;
@@ -20,9 +21,9 @@ pub struct MemoryAsks {
 impl MemoryAsks {
     /// An input of these bytes. The calls with these numbers, from 0, fail. Takes no memory.
     pub fn new(bytes: Bytes, failing: Calls) -> Self
-        ensures left { left_of result ≡ bytes }
-        ensures plan { plan_of result ≡ record { failing = failing; calls = 0 } }
-        ensures faults { faults_of result ≡ 0 }
+        ensures left { asking_left result ≡ bytes }
+        ensures plan { asking_plan result ≡ record { failing = failing; calls = 0 } }
+        ensures faults { asking_faults result ≡ 0 }
     {
         MemoryAsks {
             bytes,
@@ -35,28 +36,28 @@ impl MemoryAsks {
 
     /// The bytes that are left.
     pub fn left(&self) -> &[u8]
-        ensures { result.now ≡ left_of self.now }
+        ensures { result.now ≡ asking_left self.now }
     {
         &self.bytes.as_slice()[self.taken.min(self.bytes.len())..]
     }
 
     /// How many calls have failed.
     pub fn faults(&self) -> u64
-        ensures { result ≡ faults_of self.now }
+        ensures { result ≡ asking_faults self.now }
     {
         self.faults
     }
 }
 
 impl Asks for MemoryAsks {
-    ghost use Rattle.live_control.specs.Asking.{memory_state_of};
+    ghost use Rattle.live_control.specs.Asking.{asking_state};
 
-    ghost state = { memory_state_of };
+    ghost state = { asking_state };
 
     fn next(&mut self) -> Result<Option<u8>, Failed>
-        ensures next { IsNext result (memory_state_of self.old) (memory_state_of self.new) }
+        ensures next { IsNext result (asking_state self.old) (asking_state self.new) }
         ensures answer { result ≡ outcome_view self.old }
-        ensures plan { plan_of self.new ≡ after_call (plan_of self.old) }
+        ensures plan { asking_plan self.new ≡ after_call (asking_plan self.old) }
     {
         let number = self.calls;
         self.calls = number.saturating_add(1);

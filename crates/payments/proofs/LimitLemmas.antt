@@ -15,8 +15,8 @@ use Rattle.jobs.specs.declared.column.ColumnKind.{ColumnKind}
 use Rattle.jobs.specs.declared.column.ColumnKind.TheVariants as kind
 use Rattle.payments.specs.declared.read.PFault.{PFault}
 use Rattle.payments.specs.declared.read.PFault.TheVariants as fault
-use Rattle.payments.specs.Reading.{cells_behind, field_of, fields_from, first_cell, first_value, row_by, row_of, row_with, rows_from, source_named, value_of, work_max}
-use Rattle.payments.specs.Spelling.{amount_of, number_of}
+use Rattle.payments.specs.Reading.{cells_behind, field_of, fields_from, first_cell, first_value, row_by, record_row, row_with, rows_from, source_named, cell_value, work_max}
+use Rattle.payments.specs.Spelling.{amount_of, number_in_text}
 use Rattle.payments.proofs.RowLemmas.{before-ok, if-ok}
 use Rattle.jobs.specs.declared.limits.TheConstants.{TEXT_MAX}
 
@@ -33,9 +33,9 @@ IsShort-text true text fault v short is =
     subst IsShort same few
 IsShort-text false text fault v short is = absurd (cc is)
 
-IsShort-value : (row place : ℕ) (k : ColumnKind) (cell : List ℕ) (v : Value) → value_of row place k cell ≡ Ok v → IsShort v
+IsShort-value : (row place : ℕ) (k : ColumnKind) (cell : List ℕ) (v : Value) → cell_value row place k cell ≡ Ok v → IsShort v
 IsShort-value row place kind.Text cell v is = IsShort-text (nat_le (length cell) TEXT_MAX) cell (fault.TextLong row place) v refl is
-IsShort-value row place kind.Number cell v is = IsShort-number (number_of cell) (fault.Value row place) v is
+IsShort-value row place kind.Number cell v is = IsShort-number (number_in_text cell) (fault.Value row place) v is
 IsShort-value row place kind.Cents cell v is = IsShort-number (amount_of cell) (fault.Value row place) v is
 
 IsShort-first : (k : ColumnKind) → IsShort (first_value k)
@@ -43,7 +43,7 @@ IsShort-first kind.Text = omega arith
 IsShort-first kind.Number = omega arith
 IsShort-first kind.Cents = omega arith
 
-IsShort-field : (own : Bool) (row place : ℕ) (k : ColumnKind) (cell : List ℕ) (v : Value) → (if own then Ok (first_value k) else value_of row place k cell) ≡ Ok v → IsShort v
+IsShort-field : (own : Bool) (row place : ℕ) (k : ColumnKind) (cell : List ℕ) (v : Value) → (if own then Ok (first_value k) else cell_value row place k cell) ≡ Ok v → IsShort v
 IsShort-field true row place k cell v is = let same : first_value k ≡ v = cc is in subst IsShort same (IsShort-first k)
 IsShort-field false row place k cell v is = IsShort-value row place k cell v is
 
@@ -68,7 +68,7 @@ HasShortTexts-row_by job row cells None made is = absurd (cc is)
 HasShortTexts-row_by job row cells (Some source) made is =
     HasShortTexts-row_with row source (fields_from row 0 job.columns (drop 1 cells)) made (λ all ok. AreShort-fields_from row 0 job.columns (drop 1 cells) all ok) is
 
-HasShortTexts-row_of : (job : JobView) (row : ℕ) (cells : List (List ℕ)) (made : Row) → row_of job row cells ≡ Ok made → HasShortTexts made.tuple
+HasShortTexts-row_of : (job : JobView) (row : ℕ) (cells : List (List ℕ)) (made : Row) → record_row job row cells ≡ Ok made → HasShortTexts made.tuple
 HasShortTexts-row_of job row cells made ok =
     HasShortTexts-row_by job row cells (source_named job (first_cell cells)) made (if-ok _ _ _ made (if-ok _ _ _ made ok))
 
@@ -77,7 +77,7 @@ pub HaveShortTexts-rows_from : (job : JobView) (row : ℕ) (records : List (List
 unfolding rows_from
 HaveShortTexts-rows_from job row [] rows ok = let none : [] ≡ rows = cc ok in rw (← none) (All-nil _)
 HaveShortTexts-rows_from job row (first ∷ later) rows ok =
-    let (item, rest, made, behind, whole) = before-ok (row_of job row first) (rows_from job (row + 1) later) rows ok in
+    let (item, rest, made, behind, whole) = before-ok (record_row job row first) (rows_from job (row + 1) later) rows ok in
     rw whole (All-cons (λ (r : Row). HasShortTexts r.tuple) item rest (HasShortTexts-row_of job row first item made) (HaveShortTexts-rows_from job (row + 1) later rest behind))
 
 -- ---- work
@@ -86,7 +86,7 @@ if-test : {A : Type 0} (b : Bool) (first : Result A PFault) (fault : PFault) (ma
 if-test true first fault made is = refl
 if-test false first fault made is = absurd (cc is)
 
-work-row_of : (job : JobView) (row : ℕ) (cells : List (List ℕ)) (made : Row) → row_of job row cells ≡ Ok made → row * weight job ≤ work_max
+work-row_of : (job : JobView) (row : ℕ) (cells : List (List ℕ)) (made : Row) → record_row job row cells ≡ Ok made → row * weight job ≤ work_max
 work-row_of job row cells made ok =
     let within : nat_le (row * weight job) work_max ≡ true = if-test _ _ _ made ok in
     grind (arith, nat_tests)
@@ -95,11 +95,11 @@ work-place : (job : JobView) (row : ℕ) (records : List (List (List ℕ))) (row
 unfolding rows_from
 work-place job row [] rows ok k within = let none : [] ≡ rows = cc ok in absurd (omega (arith, ap length none))
 work-place job row (first ∷ later) rows ok zero within =
-    let (item, rest, made, behind, whole) = before-ok (row_of job row first) (rows_from job (row + 1) later) rows ok in
+    let (item, rest, made, behind, whole) = before-ok (record_row job row first) (rows_from job (row + 1) later) rows ok in
     let same : row ≡ row + 0 = omega arith in
     subst (λ n. n * weight job ≤ work_max) same (work-row_of job row first item made)
 work-place job row (first ∷ later) rows ok (suc k) within =
-    let (item, rest, made, behind, whole) = before-ok (row_of job row first) (rows_from job (row + 1) later) rows ok in
+    let (item, rest, made, behind, whole) = before-ok (record_row job row first) (rows_from job (row + 1) later) rows ok in
     let inner : k < length rest = omega (arith, ap length whole) in
     let same : row + 1 + k ≡ row + suc k = omega arith in
     subst (λ n. n * weight job ≤ work_max) same (work-place job (row + 1) later rest behind k inner)

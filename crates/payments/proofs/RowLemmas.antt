@@ -9,20 +9,20 @@ use Rattle.tuple_trace.specs.declared.value.Value.{Value}
 use Rattle.jobs.specs.Nodes.{AreFromSources, IsSourceOf, is_source}
 use Rattle.jobs.specs.JobView.{JobView}
 use Rattle.payments.specs.declared.read.PFault.{PFault}
-use Rattle.payments.specs.Reading.{before, fields_from, first_cell, is_source_with, row_by, row_of, row_with, rows_from, source_named}
+use Rattle.payments.specs.Reading.{before, fields_from, first_cell, is_source_with, row_by, record_row, row_with, rows_from, source_named}
 use Rattle.payments.proofs.Rest.{after, after-before, after-end}
 
-rows_from-cons : (job : JobView) (row : ℕ) (first : List (List ℕ)) (later : List (List (List ℕ))) → rows_from job row (first ∷ later) ≡ before (row_of job row first) (rows_from job (row + 1) later)
+rows_from-cons : (job : JobView) (row : ℕ) (first : List (List ℕ)) (later : List (List (List ℕ))) → rows_from job row (first ∷ later) ≡ before (record_row job row first) (rows_from job (row + 1) later)
 unfolding rows_from
 rows_from-cons job row first later = refl
 
 -- one more row
-pub rows_from-ok : (job : JobView) (row : ℕ) (records later : List (List (List ℕ))) (first : List (List ℕ)) (rows : List Row) (made : Row) → records ≡ first ∷ later → row_of job row first ≡ Ok made
+pub rows_from-ok : (job : JobView) (row : ℕ) (records later : List (List (List ℕ))) (first : List (List ℕ)) (rows : List Row) (made : Row) → records ≡ first ∷ later → record_row job row first ≡ Ok made
     → after (rows ++ made ∷ []) (rows_from job (row + 1) later) ≡ after rows (rows_from job row records)
 rows_from-ok job row records later first rows made is ok = rw (is, rows_from-cons job row first later, ok) (sym (after-before rows made _))
 
 -- the first fault
-pub rows_from-fault : (job : JobView) (row : ℕ) (records later : List (List (List ℕ))) (first : List (List ℕ)) (rows : List Row) (fault : PFault) → records ≡ first ∷ later → row_of job row first ≡ Err fault
+pub rows_from-fault : (job : JobView) (row : ℕ) (records later : List (List (List ℕ))) (first : List (List ℕ)) (rows : List Row) (fault : PFault) → records ≡ first ∷ later → record_row job row first ≡ Err fault
     → after rows (rows_from job row records) ≡ Err fault
 rows_from-fault job row records later first rows fault is err = rw (is, rows_from-cons job row first later, err) refl
 
@@ -64,7 +64,7 @@ if-ok true first fault made is = is
 if-ok false first fault made is = absurd (cc is)
 
 -- a row that was read enters by a source
-IsSourceOf-row_of : (job : JobView) (row : ℕ) (cells : List (List ℕ)) (made : Row) → row_of job row cells ≡ Ok made → IsSourceOf job made.source
+IsSourceOf-row_of : (job : JobView) (row : ℕ) (cells : List (List ℕ)) (made : Row) → record_row job row cells ≡ Ok made → IsSourceOf job made.source
 IsSourceOf-row_of job row cells made ok =
     IsSourceOf-row_by job row (first_cell cells) cells _ made refl (if-ok _ _ _ made (if-ok _ _ _ made ok))
 
@@ -79,5 +79,5 @@ pub AreFromSources-rows_from : (job : JobView) (row : ℕ) (records : List (List
 unfolding rows_from
 AreFromSources-rows_from job row [] rows ok = let none : [] ≡ rows = cc ok in rw (← none) (All-nil _)
 AreFromSources-rows_from job row (first ∷ later) rows ok =
-    let (item, rest, made, behind, whole) = before-ok (row_of job row first) (rows_from job (row + 1) later) rows ok in
+    let (item, rest, made, behind, whole) = before-ok (record_row job row first) (rows_from job (row + 1) later) rows ok in
     rw whole (All-cons (λ (r : Row). IsSourceOf job r.source) item rest (IsSourceOf-row_of job row first item made) (AreFromSources-rows_from job (row + 1) later rest behind))

@@ -1,5 +1,6 @@
 -- What a call on the outside leaves of the counts of faults.
-use Rattle.std.specs.Prelude.{◌≡◌, ◌<◌, ◌++◌, length, option_map, ℕ, List, Option, Some, Result, Ok, Err}
+use Rattle.std.specs.Prelude.{◌≡◌, ◌<◌, ◌++◌, length, option_map, ℕ, List, Option, Some, Result, Ok}
+use Rattle.std.specs.Prelude.{Err}
 use Rattle.tuple_trace.specs.Counts.{Rose}
 use Rattle.payments.specs.declared.shelf.ShelfFault.{ShelfFault}
 use Rattle.payments.specs.declared.shelf.ShelfFault.TheVariants as shelf

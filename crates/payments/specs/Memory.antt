@@ -1,5 +1,7 @@
 -- A shelf and a sink in memory: what they hold, and what they answer.
-use Rattle.std.specs.Prelude.{◌+◌, ◌-◌, ◌^◌, min, max, nat_eq, nat_le, length, Result, Ok, Err, if◌then◌else◌, ℕ, Bool, List, Option, None, Some, option_map, map as map_list}
+use Rattle.std.specs.Prelude.{◌+◌, ◌-◌, ◌^◌, min, max, nat_eq, nat_le, length, Result, Ok, Err}
+use Rattle.std.specs.Prelude.{if◌then◌else◌, ℕ, Bool, List, Option, None, Some, option_map}
+use Rattle.std.specs.Prelude.{map as map_list}
 use Rattle.std.specs.List.{list_any}
 use Rattle.std.specs.FinMap as map
 use Rattle.payments.specs.Causes.{Faults}

@@ -1,5 +1,7 @@
 -- The rows of a payments file.
-use Rattle.std.specs.Prelude.{◌+◌, ◌*◌, ◌&&◌, ℕ, pos, Bool, false, not, List, [], ◌∷◌, length, map, filter, drop, position, option_map, nat_le, nat_eq, codes, Option, None, Some, Result, Ok, Err, if◌then◌else◌}
+use Rattle.std.specs.Prelude.{◌+◌, ◌*◌, ◌&&◌, ℕ, pos, Bool, false, not, List, [], ◌∷◌, length, map}
+use Rattle.std.specs.Prelude.{filter, drop, position, option_map, nat_le, nat_eq, codes, Option}
+use Rattle.std.specs.Prelude.{None, Some, Result, Ok, Err, if◌then◌else◌}
 use Rattle.std.specs.Option.{ok_or}
 use Rattle.std.specs.Cmp.Lexicographic.{pointwise}
 use Rattle.csv.specs.Reading.{default_config, records, strip_bom}
@@ -15,7 +17,7 @@ use Rattle.jobs.specs.declared.column.ColumnKind.TheVariants as kind
 use Rattle.jobs.specs.declared.func.NodeDef.{NodeDef}
 use Rattle.payments.specs.declared.read.PFault.{PFault}
 use Rattle.payments.specs.declared.read.PFault.TheVariants as fault
-use Rattle.payments.specs.Spelling.{amount_of, number_of}
+use Rattle.payments.specs.Spelling.{amount_of, number_in_text}
 use Rattle.jobs.specs.declared.limits.TheConstants.{TEXT_MAX}
 
 -- the names of the columns that a payments file has
@@ -40,13 +42,13 @@ abbrev pub source_named : JobView → List ℕ → Option ℕ
 source_named job name = position (is_source_with name) job.nodes
 
 -- what a cell of a row stands for in the column at this place
-abbrev pub value_of : ℕ → ℕ → ColumnKind → List ℕ → Result Value PFault
-value_of row place kind.Text cell =
+abbrev pub cell_value : ℕ → ℕ → ColumnKind → List ℕ → Result Value PFault
+cell_value row place kind.Text cell =
     if nat_le (length cell) TEXT_MAX then Ok (value.Text cell)
     else Err (fault.TextLong row place)
-value_of row place kind.Number cell =
-    ok_or (option_map value.Num (number_of cell)) (fault.Value row place)
-value_of row place kind.Cents cell =
+cell_value row place kind.Number cell =
+    ok_or (option_map value.Num (number_in_text cell)) (fault.Value row place)
+cell_value row place kind.Cents cell =
     ok_or (option_map value.Num (amount_of cell)) (fault.Value row place)
 
 -- what an own column starts as
@@ -71,7 +73,7 @@ first_cell (cell ∷ cells) = cell
 abbrev pub field_of : ℕ → ℕ → Column → List (List ℕ) → Result Value PFault
 field_of row place column cells =
     if column.own then Ok (first_value column.kind)
-    else value_of row place column.kind (first_cell cells)
+    else cell_value row place column.kind (first_cell cells)
 
 -- the cells that a column leaves for those behind it
 abbrev pub cells_behind : Column → List (List ℕ) → List (List ℕ)
@@ -109,8 +111,8 @@ work_max = 1048576
 
 -- the row of a record, or what is wrong with it: first its number, then its length, its source, and
 -- its columns from left to right
-abbrev pub row_of : JobView → ℕ → List (List ℕ) → Result Row PFault
-row_of job row cells =
+abbrev pub record_row : JobView → ℕ → List (List ℕ) → Result Row PFault
+record_row job row cells =
     if nat_le (row * weight job) work_max then
     if nat_eq (length cells) (length (header_of job)) then row_from job row cells
     else Err (fault.Length row)
@@ -119,7 +121,8 @@ row_of job row cells =
 -- the rows of these records, of which the first has this number, or the first fault
 unfoldable pub rows_from : JobView → ℕ → List (List (List ℕ)) → Result (List Row) PFault
 rows_from job row [] = Ok []
-rows_from job row (first ∷ later) = before (row_of job row first) (rows_from job (row + 1) later)
+rows_from job row (first ∷ later) =
+    before (record_row job row first) (rows_from job (row + 1) later)
 
 -- the rows behind a header
 abbrev pub rows_behind : JobView → List (List (List ℕ)) → Result (List Row) PFault

@@ -1,7 +1,10 @@
 -- The records of a text that a reader has still to read.
-use Rattle.std.specs.Prelude.{◌≡◌, ◌+◌, ◌||◌, ℕ, false, is_none, IsTrue, List, [], length, Option, None, Some}
+use Rattle.std.specs.Prelude.{◌≡◌, ◌+◌, ◌||◌, ℕ, false, is_none, IsTrue, List, [], length, Option}
+use Rattle.std.specs.Prelude.{None, Some}
 use Rattle.std.specs.Borrow.{Bor}
-use Rattle.csv.specs.Reading.{default_config, has_failed, names_headers, reader_config, reader_headers, reader_state, reader_trim, records_from, source_of, took_first}
+use Rattle.csv.specs.Reading.{default_config, has_failed, names_headers, reader_config}
+use Rattle.csv.specs.Reading.{reader_headers, reader_state, reader_trim, records_from, source_of}
+use Rattle.csv.specs.Reading.{took_first}
 use Rattle.csv.specs.declared.parser.State.{State}
 use Rattle.csv.specs.declared.reader.Reader.{Reader}
 use Rattle.csv.specs.declared.reader.Trim.TheVariants as trim

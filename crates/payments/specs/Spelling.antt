@@ -1,5 +1,7 @@
 -- How numbers and amounts are spelled.
-use Rattle.std.specs.Prelude.{◌^◌, ◌*◌, ◌+◌, ℕ, ℤ, pos, neg_ℤ, Bool, true, false, List, [], ◌∷◌, nat_le, nat_lt, nat_eq, Option, None, Some, take, drop, position, if◌then◌else◌}
+use Rattle.std.specs.Prelude.{◌^◌, ◌*◌, ◌+◌, ℕ, ℤ, pos, neg_ℤ, Bool, true, false, List, [], ◌∷◌}
+use Rattle.std.specs.Prelude.{nat_le, nat_lt, nat_eq, Option, None, Some, take, drop, position}
+use Rattle.std.specs.Prelude.{if◌then◌else◌}
 use Rattle.tuple_trace.specs.Digits.{digits_of}
 
 -- the number with this sign and size, where a signed number of 64 bits reaches so far
@@ -22,8 +24,8 @@ abbrev pub after_sign : List ℕ → List ℕ
 after_sign text = if is_negative text then drop 1 text else text
 
 -- a number: an optional dash and digits
-abbrev pub number_of : List ℕ → Option ℤ
-number_of text = with_sign (is_negative text) (digits_of (after_sign text))
+abbrev pub number_in_text : List ℕ → Option ℤ
+number_in_text text = with_sign (is_negative text) (digits_of (after_sign text))
 
 -- the hundredths that one or two digits behind a point stand for
 abbrev pub hundredths_of : List ℕ → Option ℕ

@@ -4,7 +4,7 @@ ghost use Rattle.std.specs.Cmp.Lexicographic.{pointwise};
 ghost use Rattle.csv.specs.Records.{fields_of as cells_of};
 ghost use Rattle.payments.specs.Reading.{begins_with, cells_behind, field_of as field_of_column};
 ghost use Rattle.payments.specs.Reading.{fields_from, first_cell, first_value as first_value_of};
-ghost use Rattle.payments.specs.Reading.{given_names, value_of as value_of_cell};
+ghost use Rattle.payments.specs.Reading.{given_names, cell_value as value_of_cell};
 
 use crate::PFault;
 use crate::spelling::{amount, number};

@@ -3,7 +3,7 @@ ghost use Rattle.csv.specs.Records.{fields_of as cells_of};
 ghost use Rattle.jobs.specs.Job.{job_view};
 ghost use Rattle.jobs.specs.Weights.{weight as weight_of};
 ghost use Rattle.payments.specs.Reading.{header_of, is_source_with as is_source_node_with};
-ghost use Rattle.payments.specs.Reading.{row_from as row_from_record, row_of as row_of_record};
+ghost use Rattle.payments.specs.Reading.{row_from as row_from_record, record_row as row_of_record};
 ghost use Rattle.payments.specs.Reading.{source_named as source_named_of};
 
 use crate::PFault;

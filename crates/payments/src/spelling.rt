@@ -1,7 +1,7 @@
 ghost use Rattle.std.specs.Prelude.{◌≡◌, ◌-◌, ◌^◌, position, nat_eq, Bool};
 ghost use Rattle.tuple_trace.specs.Digits.{at_most, digits_of};
 ghost use Rattle.payments.specs.Spelling.{after_sign, amount_of, cents, size_of, with_sign};
-ghost use Rattle.payments.specs.Spelling.{hundredths_of, is_negative, number_of, signed_of};
+ghost use Rattle.payments.specs.Spelling.{hundredths_of, is_negative, number_in_text, signed_of};
 
 use tuple_trace::digits_up_to;
 
@@ -9,7 +9,7 @@ use tuple_trace::digits_up_to;
 /// otherwise or no `i64`.
 #[tactic(auto, using(crate::proofs::SpellingLemmas::with_sign_at_most))]
 pub(crate) fn number(text: &[u8]) -> Option<i64>
-    ensures { result ≡ number_of text.now }
+    ensures { result ≡ number_in_text text.now }
 {
     let (negative, rest) = signed(text);
     in_range(negative, u128::from(digits(rest)?))

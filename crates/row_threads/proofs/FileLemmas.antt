@@ -11,7 +11,7 @@ use Rattle.jobs.specs.Nodes.{AreFromSources}
 use Rattle.jobs.specs.Weights.{weight}
 use Rattle.payments.proofs.LimitLemmas.{HaveShortTexts-rows_from}
 use Rattle.payments.proofs.RowLemmas.{AreFromSources-rows_from}
-use Rattle.payments.specs.Reading.{before, header_of, row_of, rows_behind, rows_from, work_max}
+use Rattle.payments.specs.Reading.{before, header_of, record_row, rows_behind, rows_from, work_max}
 use Rattle.payments.specs.declared.read.PFault.{PFault}
 use Rattle.payments.specs.declared.read.PFault.TheVariants as fault
 use Rattle.stream_rows.proofs.SoundLemmas.{these}
@@ -37,7 +37,7 @@ file_from job row most (first ∷ later) rows is few light =
         → ((rest : List Row) → others ≡ these rest None → row + 1 + length rest ≤ most + 1
         → rows_from job (row + 1) later ≡ Ok rest)
         → followed_by read others ≡ these rows None
-        → before (row_of job row first) (rows_from job (row + 1) later) ≡ Ok rows
+        → before (record_row job row first) (rows_from job (row + 1) later) ≡ Ok rows
     go (Err wrong) e on same =
         let none : Some wrong ≡ None = ap (λ (r : SoundRows). r.fault) same in absurd (cc none)
     go (Ok made) e on same =
@@ -50,7 +50,7 @@ file_from job row most (first ∷ later) rows is few light =
         mul-le-mul_right (weight job) (omega (arith, few, many)) in
         let test : nat_le (row * weight job) work_max ≡ true =
         le-leb (row * weight job) work_max (omega (arith, within, light)) in
-        let here : row_of job row first ≡ Ok made =
+        let here : record_row job row first ≡ Ok made =
         ap (λ b. if b then stream_row job row first else Err (fault.TooMuch row)) test ∙ e in
         ap (λ (r : Result Row PFault). before r (rows_from job (row + 1) later)) here
         ∙ ap (before (Ok made)) behind ∙ ap Ok all

@@ -9,7 +9,7 @@ use Rattle.sink_journal.specs.declared.journal.Feed.TheVariants as feed
 use Rattle.tuple_trace.specs.declared.row.Row.{Row}
 use Rattle.tuple_trace.specs.declared.tuple.Item.TheVariants as item
 use Rattle.tuple_trace.specs.declared.tuple.Tuple.{Tuple}
-use Rattle.flow_model.specs.Feeding.{fed_put, fed_puts, fed_tuple, feed_after, feed_from, issued_after, issued_at_first, issued_where, row_at}
+use Rattle.flow_model.specs.Feeding.{fed_put, fed_puts, fed_tuple, feed_after, feed_from, issued_after, issued_at_first, issued_where, row_numbered}
 use Rattle.flow_model.specs.Replay.{Put}
 use Rattle.flow_model.proofs.ElementLemmas.{IsIn, in_cases}
 use Rattle.flow_model.proofs.FreshLemmas.{count_at_first, count_next, count_to}
@@ -186,7 +186,7 @@ pub fed_puts-append : (job : JobView) (rows : List Row) (issued next : ℕ) (xs 
     → fed_puts job rows issued (xs ++ ys) ≡ fed_puts job rows issued xs ++ fed_puts job rows next ys
 fed_puts-append job rows issued next [] ys e = let f : issued ≡ next = omega arith in ap (λ k. fed_puts job rows k ys) f
 fed_puts-append job rows issued next (feed.Fed number ∷ xs) ys e =
-    let here : List Put = fed_put job issued (row_at rows number) in
+    let here : List Put = fed_put job issued (row_numbered rows number) in
     ap (λ (l : List Put). here ++ l) (fed_puts-append job rows issued next xs ys e) ∙ sym (append_assoc here (fed_puts job rows issued xs) (fed_puts job rows next ys))
 fed_puts-append job rows issued next (feed.Issued r ∷ xs) ys e = fed_puts-append job rows (issued + 1) next xs ys (omega arith)
 fed_puts-append job rows issued next (feed.Stopped ∷ xs) ys e = fed_puts-append job rows issued next xs ys e
@@ -215,7 +215,7 @@ after_up n xs r row rows (suc left) le =
 pub feed_up : (n : ℕ) (xs : List ℕ) → FedUpTo n (feed_from 0 0 xs n)
 feed_up n xs = issued_up n (λ after. nat_le after 0) n 1 xs (feed_after xs 1 0 n (n - 0)) (after_up n xs 1 0 n (n - 0) (omega arith))
 
-row_first : (rows : List Row) (n number : ℕ) → number ≤ n → row_at (take n rows) number ≡ row_at rows number
+row_first : (rows : List Row) (n number : ℕ) → number ≤ n → row_numbered (take n rows) number ≡ row_numbered rows number
 row_first rows n zero le = refl
 row_first rows n (suc place) le = get_take n place rows (omega arith)
 
@@ -224,7 +224,7 @@ pub fed_puts_first : (job : JobView) (rows : List Row) (n issued : ℕ) (feeds :
 fed_puts_first job rows n issued [] h = refl
 fed_puts_first job rows n issued (feed.Fed number ∷ more) h =
     ap (λ o. fed_put job issued o ++ fed_puts job (take n rows) issued more) (row_first rows n number h.0)
-    ∙ ap (λ (l : List Put). fed_put job issued (row_at rows number) ++ l) (fed_puts_first job rows n issued more h.1)
+    ∙ ap (λ (l : List Put). fed_put job issued (row_numbered rows number) ++ l) (fed_puts_first job rows n issued more h.1)
 fed_puts_first job rows n issued (feed.Issued r ∷ more) h = fed_puts_first job rows n (issued + 1) more h
 fed_puts_first job rows n issued (feed.Stopped ∷ more) h = fed_puts_first job rows n issued more h
 
@@ -232,8 +232,8 @@ fed_puts_first job rows n issued (feed.Stopped ∷ more) h = fed_puts_first job 
 pub fed_issued : (job : JobView) (rows : List Row) (issued : ℕ) (feeds : List Feed) (p : Put) (t : Tuple) → IsIn p (fed_puts job rows issued feeds) → p.item ≡ item.Carry t → t.issued ≤ issued + issued_in feeds
 fed_issued job rows issued [] p t i e = absurd i
 fed_issued job rows issued (feed.Fed number ∷ more) p t i e =
-    elim (in_cases p (fed_put job issued (row_at rows number)) (fed_puts job rows issued more) i) [
-      | inl a ↦ go (row_at rows number) a
+    elim (in_cases p (fed_put job issued (row_numbered rows number)) (fed_puts job rows issued more) i) [
+      | inl a ↦ go (row_numbered rows number) a
       | inr b ↦ fed_issued job rows issued more p t b e
     ]
   where

@@ -22,7 +22,7 @@ use Rattle.flow_model.specs.Law.{IsExecution, Progress, Duties, initial, progres
 use Rattle.flow_model.specs.declared.topology.Lane.{Lane}
 use Rattle.flow_model.specs.SetupView.{SetupView, Worker}
 use Rattle.flow_model.specs.Points.{turned}
-use Rattle.flow_model.specs.Replay.{StateView, Put, after_all, item_on, items_on, sent, shown}
+use Rattle.flow_model.specs.Replay.{StateView, Put, after_all, item_on, items_on, items_sent, shown}
 use Rattle.flow_model.specs.Requests.{afters}
 use Rattle.flow_model.specs.Run.{IsRunFrom, IsWorked, Ran, put_by, ran_as, sent_by}
 use Rattle.flow_model.specs.Duties.{dues_after, duties}
@@ -167,7 +167,7 @@ module _ (setup : SetupView) (kept : Kept setup) (m : ℕ) (le : m ≤ length se
 
 sent_some : (setup : SetupView) (begin : Begin) (lane : Lane) (p : Option Worker) (c : Option Counts) (j : Option (List Entry)) (xs : List Item) → sent_by setup begin lane p c j ≡ Some xs
     → (who : Worker) × (counts : Counts) × (journal : List Entry) × (p ≡ Some who) × (c ≡ Some counts) × (j ≡ Some journal)
-    × (sent setup who (view_at setup begin.turned who counts) lane journal ≡ xs)
+    × (items_sent setup who (view_at setup begin.turned who counts) lane journal ≡ xs)
 sent_some setup begin lane (Some who) (Some counts) (Some journal) xs e = (who, counts, journal, refl, refl, refl, cc)
 sent_some setup begin lane (Some who) (Some counts) None xs e = absurd (cc)
 sent_some setup begin lane (Some who) None j xs e = absurd (cc)
@@ -285,12 +285,12 @@ module _ (setup : SetupView) (rows : List Row) (n m : ℕ) (kept : Kept setup) (
       worked_here : IsWorked setup (at_first setup) h.who empty (endless h.x ++ h.y) h.s'
       worked_here = joined_worked setup kept m le_plans h.who worker h.x h.s h.first under h.y h.s' begin refl h.second
 
-      sent_here : (lane : Lane) → sent setup h.who (view_at setup 0 h.who empty) lane (endless h.x ++ h.y)
-          ≡ no_last (sent cut h.who (view_at cut 0 h.who empty) lane h.x) ++ sent setup h.who (view_at setup m h.who h.s) lane h.y
+      sent_here : (lane : Lane) → items_sent setup h.who (view_at setup 0 h.who empty) lane (endless h.x ++ h.y)
+          ≡ no_last (items_sent cut h.who (view_at cut 0 h.who empty) lane h.x) ++ items_sent setup h.who (view_at setup m h.who h.s) lane h.y
       sent_here lane =
           sent-append setup h.who (view_at setup 0 h.who empty) lane (endless h.x) h.y
-          ∙ (ap (λ (items : List Item). items ++ sent setup h.who (after_all setup h.who (view_at setup 0 h.who empty) (endless h.x)) lane h.y) (sym (sent_first setup m h.who (view_at cut 0 h.who empty) lane h.x names_here))
-          ∙ ap (λ (l : StateView). no_last (sent cut h.who (view_at cut 0 h.who empty) lane h.x) ++ sent setup h.who l lane h.y) view_here)
+          ∙ (ap (λ (items : List Item). items ++ items_sent setup h.who (after_all setup h.who (view_at setup 0 h.who empty) (endless h.x)) lane h.y) (sym (sent_first setup m h.who (view_at cut 0 h.who empty) lane h.x names_here))
+          ∙ ap (λ (l : StateView). no_last (items_sent cut h.who (view_at cut 0 h.who empty) lane h.x) ++ items_sent setup h.who l lane h.y) view_here)
 
     -- ---- lanes
 
@@ -315,13 +315,13 @@ module _ (setup : SetupView) (rows : List Row) (n m : ℕ) (kept : Kept setup) (
             → sent_by setup begin lane (slice_get (workers_in setup.job) v) (slice_get sa v) (slice_get jb v) ≡ Some ys
             → sent_by setup (at_first setup) lane (slice_get (workers_in setup.job) v) (slice_get (at_first setup).states v) (slice_get (map joined_journal (zip ja jb)) v) ≡ Some (no_last xs ++ ys)
         go lt h p q =
-            let p' : Some (sent cut h.who (view_at cut 0 h.who empty) lane h.x) ≡ Some xs = rw (h.who_is, empty_there v h.who h.who_is, h.x_is) at p in
-            let q' : Some (sent setup h.who (view_at setup m h.who h.s) lane h.y) ≡ Some ys = rw (h.who_is, h.s_is, h.y_is) at q in
-            let x : sent cut h.who (view_at cut 0 h.who empty) lane h.x ≡ xs = cc in
-            let y : sent setup h.who (view_at setup m h.who h.s) lane h.y ≡ ys = cc in
+            let p' : Some (items_sent cut h.who (view_at cut 0 h.who empty) lane h.x) ≡ Some xs = rw (h.who_is, empty_there v h.who h.who_is, h.x_is) at p in
+            let q' : Some (items_sent setup h.who (view_at setup m h.who h.s) lane h.y) ≡ Some ys = rw (h.who_is, h.s_is, h.y_is) at q in
+            let x : items_sent cut h.who (view_at cut 0 h.who empty) lane h.x ≡ xs = cc in
+            let y : items_sent setup h.who (view_at setup m h.who h.s) lane h.y ≡ ys = cc in
             rw (h.who_is, empty_there v h.who h.who_is, get_joined ja jb v h.x h.y h.x_is h.y_is) (
             ap Some (sent_here v lt h lane
-            ∙ (ap (λ (items : List Item). no_last items ++ sent setup h.who (view_at setup m h.who h.s) lane h.y) x ∙ ap (λ (items : List Item). no_last xs ++ items) y)))
+            ∙ (ap (λ (items : List Item). no_last items ++ items_sent setup h.who (view_at setup m h.who h.s) lane h.y) x ∙ ap (λ (items : List Item). no_last xs ++ items) y)))
 
     pub joined_run : IsRunFrom (at_first setup) rows (ran_as setup (unstopped fa ++ fb) (map joined_journal (zip ja jb)) sb)
     joined_run = record {

@@ -36,8 +36,8 @@ use Rattle.versions.specs.declared.request.Request.{Request}
 use Rattle.flow_model.specs.Begin.{at_first, view_at}
 use Rattle.flow_model.specs.Feeding.{fed, fed_puts, fed_tuple}
 use Rattle.flow_model.specs.Lanes.{first_on, lane_along, lane_of, receiver_of}
-use Rattle.flow_model.specs.Replay.{Put, StateView, after, after_all, came_in, put_out, puts, sent, shown, visit_at, with_change}
-use Rattle.flow_model.specs.Requests.{change_of}
+use Rattle.flow_model.specs.Replay.{Put, StateView, after, after_all, came_in, put_out, puts, items_sent, shown, visit_at, after_change}
+use Rattle.flow_model.specs.Requests.{change_by}
 use Rattle.flow_model.specs.Run.{Ran}
 use Rattle.flow_model.specs.SetupView.{SetupView, Worker}
 use Rattle.flow_model.specs.Workers.{node_workers, workers_at_node, workers_in}
@@ -130,7 +130,7 @@ same_key f g roof once c h =
     by_like like = (and_parts (not (is_fixed f)) (is_kind (kind_of f) (kind_of g) && is_key (key_of f) (key_of g)) like).1
 
 changed_key : (setup : SetupView) (r node : ℕ) (def : NodeDef) (change : Change) → KeepKinds setup.job setup.requests → slice_get setup.job.nodes node ≡ Some def → is_count def.func ≡ true
-    → change_of setup r node ≡ Some change → key_of change.func ≡ key_of def.func
+    → change_by setup r node ≡ Some change → key_of change.func ≡ key_of def.func
 changed_key setup r node def change kinds g c h =
     let (request, asked, among, at) = change_there setup r node change h in
     let all : All (KeepsKind setup.job) request.changes = at_of_all (λ (request : Request). All (KeepsKind setup.job) request.changes) request setup.requests kinds asked in
@@ -150,10 +150,10 @@ module _ (P : List ℕ → Type 0) (setup : SetupView) (kinds : KeepKinds setup.
         keys_stay (after setup who view (entry.Met l t)) more same (λ n u i. m n u (inr i)) (keys_after P setup.job view.func view.counts t (λ k e. m l t (inl refl) k (sym same ∙ e)) h)
     keys_stay view (entry.Marked l r ∷ more) same m h = keys_stay view more same (λ n u i. m n u (inr i)) h
     keys_stay view (entry.Turned r ∷ more) same m h =
-        let k = turned (change_of setup r who.node) refl in
+        let k = turned (change_by setup r who.node) refl in
         keys_stay (after setup who view (entry.Turned r)) more k.0 (λ n u i. m n u (inr i)) k.1
       where
-        turned : (o : Option Change) → change_of setup r who.node ≡ o → (key_of (with_change o view).func ≡ key_of def.func) × KeysAre P (with_change o view).counts
+        turned : (o : Option Change) → change_by setup r who.node ≡ o → (key_of (after_change o view).func ≡ key_of def.func) × KeysAre P (after_change o view).counts
         turned None g = (same, h)
         turned (Some change) g = (changed_key setup r who.node def change kinds there counts_here g, keys_carried P change.carry view.counts h)
     keys_stay view (entry.Ended l ∷ more) same m h = keys_stay (after setup who view (entry.Ended l)) more same (λ n u i. m n u (inr i)) h
@@ -236,7 +236,7 @@ module _ (rows : List Row) (ran : Ran) (g : Running rows ran) (w : ℕ) (lt : Ha
       let both : item.Carry t ≡ item.Last = same ∙ c in
       absurd (cc)
 
-  sent_led : (s : ℕ) (lane : Lane) (t : Tuple) → lane.receiver ≡ here.number → IsIn (item.Carry t) (sent ran.setup (worker_no ran.setup s) (begun ran.setup s) lane (journal_of ran s)) → Led t
+  sent_led : (s : ℕ) (lane : Lane) (t : Tuple) → lane.receiver ≡ here.number → IsIn (item.Carry t) (items_sent ran.setup (worker_no ran.setup s) (begun ran.setup s) lane (journal_of ran s)) → Led t
   sent_led s lane t to i =
       let who : Worker = worker_no ran.setup s in
       let x = in_flat_map (put_then ran.setup who lane) (item.Carry t) (story ran.setup who (begun ran.setup s) (journal_of ran s))

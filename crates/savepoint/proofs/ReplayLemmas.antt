@@ -21,8 +21,8 @@ use Rattle.flow_model.specs.Lanes.{is_same_lane, lanes_out}
 use Rattle.flow_model.specs.declared.topology.Lane.{Lane}
 use Rattle.flow_model.specs.SetupView.{SetupView, Worker}
 use Rattle.flow_model.specs.Points.{turned}
-use Rattle.flow_model.specs.Replay.{StateView, Put, after, after_all, came_in, items_on, marker, marker_by, put_on_each, puts, sent, shown, with_change}
-use Rattle.flow_model.specs.Requests.{change_in, change_of, changes, func_after, func_with}
+use Rattle.flow_model.specs.Replay.{StateView, Put, after, after_all, came_in, items_on, marker, marker_by, put_on_each, puts, items_sent, shown, after_change}
+use Rattle.flow_model.specs.Requests.{change_asked, change_by, changes, func_after, func_with}
 use Rattle.flow_model.specs.Duties.{numbers_from}
 use Rattle.flow_model.proofs.ElementLemmas.{IsIn}
 use Rattle.flow_model.proofs.PlannedLemmas.{HasCovers}
@@ -42,10 +42,10 @@ unended view = record view { ended = 0 }
 turn_first : (setup : SetupView) (m : ℕ) (who : Worker) (view : StateView) (r : ℕ) → r ≤ m
     → after setup who (unended view) (entry.Turned r) ≡ unended (after (first_of setup m) who view (entry.Turned r))
 turn_first setup m who view r le =
-    ap (λ (o : Option Request). record (with_change (change_in o who.node) (unended view)) { last = r }) (sym (request_first setup m r le))
-    ∙ go (change_of (first_of setup m) r who.node)
+    ap (λ (o : Option Request). record (after_change (change_asked o who.node) (unended view)) { last = r }) (sym (request_first setup m r le))
+    ∙ go (change_by (first_of setup m) r who.node)
   where
-    go : (o : Option Change) → ◌≡◌ {A = StateView} (record (with_change o (unended view)) { last = r }) (unended (record (with_change o view) { last = r }))
+    go : (o : Option Change) → ◌≡◌ {A = StateView} (record (after_change o (unended view)) { last = r }) (unended (record (after_change o view) { last = r }))
     go None = refl
     go (Some change) = refl
 
@@ -96,31 +96,31 @@ turn_puts setup m who view r le =
     ap (λ (o : Option Plan). flat_map (λ mark. put_on_each mark (filter (λ (lane : Lane). holds_edge o lane.edge) (lanes_out setup.job who.number))) (marker_by r o)) (plan_first setup m r le)
 
 pub sent_first : (setup : SetupView) (m : ℕ) (who : Worker) (view : StateView) (lane : Lane) (journal : List Entry) → NamesUpTo m journal
-    → no_last (sent (first_of setup m) who view lane journal) ≡ sent setup who (unended view) lane (endless journal)
+    → no_last (items_sent (first_of setup m) who view lane journal) ≡ items_sent setup who (unended view) lane (endless journal)
 sent_first setup m who view lane [] h = refl
 sent_first setup m who view lane (entry.Met l t ∷ more) h =
     let cut : SetupView = first_of setup m in
     let here : List Item = items_on lane (puts cut who view (entry.Met l t)) in
     let none : (p : Put) → IsIn p (puts cut who view (entry.Met l t)) → is_last p.item ≡ false = λ p i. ap is_last (puts_come cut who view (entry.Met l t) p i).1 in
-    no_last-append here (sent cut who (after cut who view (entry.Met l t)) lane more)
-    ∙ (ap (λ (items : List Item). items ++ no_last (sent cut who (after cut who view (entry.Met l t)) lane more)) (kept lane (puts cut who view (entry.Met l t)) none)
+    no_last-append here (items_sent cut who (after cut who view (entry.Met l t)) lane more)
+    ∙ (ap (λ (items : List Item). items ++ no_last (items_sent cut who (after cut who view (entry.Met l t)) lane more)) (kept lane (puts cut who view (entry.Met l t)) none)
     ∙ ap (λ (items : List Item). here ++ items) (sent_first setup m who (after cut who view (entry.Met l t)) lane more h))
 sent_first setup m who view lane (entry.Marked l r ∷ more) h = sent_first setup m who view lane more h.1
 sent_first setup m who view lane (entry.Turned r ∷ more) h =
     let cut : SetupView = first_of setup m in
     let x : Entry = entry.Turned r in
     let none : (p : Put) → IsIn p (puts cut who view x) → is_last p.item ≡ false = λ p i. ap is_last (puts_come cut who view x p i).2 in
-    let later : no_last (sent cut who (after cut who view x) lane more) ≡ sent setup who (after setup who (unended view) x) lane (endless more) =
-    sent_first setup m who (after cut who view x) lane more h.1 ∙ ap (λ (view : StateView). sent setup who view lane (endless more)) (sym (turn_first setup m who view r h.0)) in
-    no_last-append (items_on lane (puts cut who view x)) (sent cut who (after cut who view x) lane more)
-    ∙ (ap (λ (items : List Item). items ++ no_last (sent cut who (after cut who view x) lane more)) (kept lane (puts cut who view x) none)
-    ∙ (ap (λ (ps : List Put). items_on lane ps ++ no_last (sent cut who (after cut who view x) lane more)) (turn_puts setup m who view r h.0)
+    let later : no_last (items_sent cut who (after cut who view x) lane more) ≡ items_sent setup who (after setup who (unended view) x) lane (endless more) =
+    sent_first setup m who (after cut who view x) lane more h.1 ∙ ap (λ (view : StateView). items_sent setup who view lane (endless more)) (sym (turn_first setup m who view r h.0)) in
+    no_last-append (items_on lane (puts cut who view x)) (items_sent cut who (after cut who view x) lane more)
+    ∙ (ap (λ (items : List Item). items ++ no_last (items_sent cut who (after cut who view x) lane more)) (kept lane (puts cut who view x) none)
+    ∙ (ap (λ (ps : List Put). items_on lane ps ++ no_last (items_sent cut who (after cut who view x) lane more)) (turn_puts setup m who view r h.0)
     ∙ ap (λ (items : List Item). items_on lane (puts setup who (unended view) x) ++ items) later))
 sent_first setup m who view lane (entry.Ended n ∷ more) h =
     let cut : SetupView = first_of setup m in
     let x : Entry = entry.Ended n in
-    no_last-append (items_on lane (puts cut who view x)) (sent cut who (after cut who view x) lane more)
-    ∙ (ap (λ (items : List Item). items ++ no_last (sent cut who (after cut who view x) lane more)) (dropped lane (puts cut who view x) (puts_come cut who view x))
+    no_last-append (items_on lane (puts cut who view x)) (items_sent cut who (after cut who view x) lane more)
+    ∙ (ap (λ (items : List Item). items ++ no_last (items_sent cut who (after cut who view x) lane more)) (dropped lane (puts cut who view x) (puts_come cut who view x))
     ∙ sent_first setup m who (after cut who view x) lane more h)
 
 -- ---- what is shown
@@ -167,13 +167,13 @@ fed_stays job rows issued lane feeds =
 -- the function after these requests were turned, and the latest of them
 abbrev pub func_by : SetupView → ℕ → Func → List ℕ → Func
 func_by setup node f [] = f
-func_by setup node f (r ∷ more) = func_by setup node (func_with (change_of setup r node) f) more
+func_by setup node f (r ∷ more) = func_by setup node (func_with (change_by setup r node) f) more
 
 abbrev pub last_by : ℕ → List ℕ → ℕ
 last_by last [] = last
 last_by last (r ∷ more) = last_by r more
 
-with_func : (o : Option Change) (view : StateView) → (with_change o view).func ≡ func_with o view.func
+with_func : (o : Option Change) (view : StateView) → (after_change o view).func ≡ func_with o view.func
 with_func None view = refl
 with_func (Some change) view = refl
 
@@ -183,7 +183,7 @@ after_func setup who view (entry.Met l t ∷ more) = after_func setup who (after
 after_func setup who view (entry.Marked l r ∷ more) = after_func setup who view more
 after_func setup who view (entry.Turned r ∷ more) =
     after_func setup who (after setup who view (entry.Turned r)) more
-    ∙ ap (λ (f : Func). func_by setup who.node f (turned more)) (with_func (change_of setup r who.node) view)
+    ∙ ap (λ (f : Func). func_by setup who.node f (turned more)) (with_func (change_by setup r who.node) view)
 after_func setup who view (entry.Ended l ∷ more) = after_func setup who (after setup who view (entry.Ended l)) more
 
 pub after_last : (setup : SetupView) (who : Worker) (view : StateView) (journal : List Entry) → (after_all setup who view journal).last ≡ last_by view.last (turned journal)
@@ -202,7 +202,7 @@ endless_turned (entry.Ended l ∷ more) = endless_turned more
 
 func_by-append : (setup : SetupView) (node : ℕ) (f : Func) (xs ys : List ℕ) → func_by setup node f (xs ++ ys) ≡ func_by setup node (func_by setup node f xs) ys
 func_by-append setup node f [] ys = refl
-func_by-append setup node f (x ∷ xs) ys = func_by-append setup node (func_with (change_of setup x node) f) xs ys
+func_by-append setup node f (x ∷ xs) ys = func_by-append setup node (func_with (change_by setup x node) f) xs ys
 
 last_by-append : (last : ℕ) (xs ys : List ℕ) → last_by last (xs ++ ys) ≡ last_by (last_by last xs) ys
 last_by-append last [] ys = refl
@@ -220,10 +220,10 @@ module _ (setup : SetupView) (covered : HasCovers setup) (node : ℕ) where
   covering_more m =
       ap (filter (λ r. covers setup r node)) (one_more 1 m (suc m) (omega arith)) ∙ filter-append (λ r. covers setup r node) (numbers_from 1 m) (suc m ∷ [])
 
-  uncovered : (r : ℕ) → covers setup r node ≡ false → change_of setup r node ≡ None
+  uncovered : (r : ℕ) → covers setup r node ≡ false → change_by setup r node ≡ None
   uncovered r h = go (changes setup r node) refl
     where
-      go : (b : Bool) → changes setup r node ≡ b → change_of setup r node ≡ None
+      go : (b : Bool) → changes setup r node ≡ b → change_by setup r node ≡ None
       go true e = let c : covers setup r node ≡ true = covered.asked r node (covered.changed r node e) in absurd (cc)
       go false e = unchanged setup r node e
 
@@ -234,7 +234,7 @@ module _ (setup : SetupView) (covered : HasCovers setup) (node : ℕ) where
       ∙ (func_by-append setup node f (covering m) (filter (λ r. covers setup r node) (suc m ∷ []))
       ∙ (ap (λ (g : Func). func_by setup node g (filter (λ r. covers setup r node) (suc m ∷ []))) (func_covering f m) ∙ go (covers setup (suc m) node) refl))
     where
-      go : (b : Bool) → covers setup (suc m) node ≡ b → func_by setup node (func_after setup node f m) (cond b (suc m ∷ []) []) ≡ func_with (change_of setup (suc m) node) (func_after setup node f m)
+      go : (b : Bool) → covers setup (suc m) node ≡ b → func_by setup node (func_after setup node f m) (cond b (suc m ∷ []) []) ≡ func_with (change_by setup (suc m) node) (func_after setup node f m)
       go true e = refl
       go false e = ap (λ o. func_with o (func_after setup node f m)) (sym (uncovered (suc m) e))
 

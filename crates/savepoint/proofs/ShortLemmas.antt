@@ -41,11 +41,11 @@ use Rattle.tuple_trace.specs.declared.tuple.Tuple.{Tuple}
 use Rattle.tuple_trace.specs.declared.tuple.Visit.{Visit}
 use Rattle.versions.specs.declared.request.Change.{Change}
 use Rattle.versions.specs.declared.request.Request.{Request}
-use Rattle.flow_model.specs.Feeding.{fed, fed_puts, fed_tuple, row_at}
+use Rattle.flow_model.specs.Feeding.{fed, fed_puts, fed_tuple, row_numbered}
 use Rattle.flow_model.specs.declared.topology.Lane.{Lane}
 use Rattle.flow_model.specs.SetupView.{SetupView, Worker}
-use Rattle.flow_model.specs.Replay.{StateView, Put, after, came_in, put_out, puts, sent, shown, visit_at, with_change}
-use Rattle.flow_model.specs.Requests.{change_of}
+use Rattle.flow_model.specs.Replay.{StateView, Put, after, came_in, put_out, puts, items_sent, shown, visit_at, after_change}
+use Rattle.flow_model.specs.Requests.{change_by}
 use Rattle.flow_model.specs.Run.{Ran}
 use Rattle.flow_model.proofs.AgreementLemmas.{met_shown}
 use Rattle.flow_model.proofs.ElementLemmas.{IsIn, all_of_at, at_of_all, flat_map_in, in_cases, in_flat_map, in_map, in_of_place}
@@ -204,7 +204,7 @@ short_func setup who view [] m h e i = absurd i
 short_func setup who view (x ∷ more) m h e (inl p) = ap (λ (m : Moment). oversize m.view.func) p ∙ e
 short_func setup who view (x ∷ more) m h e (inr i) = short_func setup who (after setup who view x) more m h (next x) i
   where
-    turned : (r : ℕ) (o : Option Change) → change_of setup r who.node ≡ o → oversize (with_change o view).func ≡ None
+    turned : (r : ℕ) (o : Option Change) → change_by setup r who.node ≡ o → oversize (after_change o view).func ≡ None
     turned r None g = e
     turned r (Some change) g =
         let (request, asked, among, at) = change_there setup r who.node change g in
@@ -213,7 +213,7 @@ short_func setup who view (x ∷ more) m h e (inr i) = short_func setup who (aft
     next : (x : Entry) → oversize (after setup who view x).func ≡ None
     next (entry.Met l t) = e
     next (entry.Marked l r) = e
-    next (entry.Turned r) = turned r (change_of setup r who.node) refl
+    next (entry.Turned r) = turned r (change_by setup r who.node) refl
     next (entry.Ended l) = e
 
 module _ (rows : List Row) (ran : Ran) (g : Running rows ran) (limits : HasLimits ran.setup.job) (requests : HaveLimits ran.setup.requests) (short : (row : Row) → IsIn row rows → AreShort row.tuple.fields) where
@@ -242,12 +242,12 @@ module _ (rows : List Row) (ran : Ran) (g : Running rows ran) (limits : HasLimit
             | inr (inr n) ↦ absurd n
           ]
         where
-          row_in : (number : ℕ) (row : Row) → row_at rows number ≡ Some row → IsIn row rows
+          row_in : (number : ℕ) (row : Row) → row_numbered rows number ≡ Some row → IsIn row rows
           row_in zero row e = absurd (cc)
           row_in (suc place) row e = in_of_place row rows place e
 
       sent_short : (s : ℕ) (lane : Lane) → HasWorker ran s → ((n : ℕ) (u : Tuple) → IsIn (entry.Met n u) (journal_of ran s) → AreShort u.fields)
-          → IsIn (item.Carry t) (sent ran.setup (worker_no ran.setup s) (begun ran.setup s) lane (journal_of ran s)) → AreShort t.fields
+          → IsIn (item.Carry t) (items_sent ran.setup (worker_no ran.setup s) (begun ran.setup s) lane (journal_of ran s)) → AreShort t.fields
       sent_short s lane ls met i =
           let who : Worker = worker_no ran.setup s in
           let ws : IsWorker ran.setup.job who = (worker_is ran.setup s ls).1 in

@@ -22,8 +22,8 @@ use Rattle.versions.specs.Kept.{KeepKinds}
 use Rattle.versions.specs.declared.request.Change.{Change}
 use Rattle.flow_model.specs.Begin.{at_first, view_at}
 use Rattle.flow_model.specs.SetupView.{SetupView, Worker}
-use Rattle.flow_model.specs.Replay.{StateView, after, after_all, with_change}
-use Rattle.flow_model.specs.Requests.{change_of}
+use Rattle.flow_model.specs.Replay.{StateView, after, after_all, after_change}
+use Rattle.flow_model.specs.Requests.{change_by}
 use Rattle.flow_model.specs.Run.{Ran}
 use Rattle.flow_model.specs.Workers.{workers_in}
 use Rattle.flow_model.proofs.KindLemmas.{AreAlike, alike_self, changed_alike}
@@ -65,10 +65,10 @@ module _ (setup : SetupView) (kinds : KeepKinds setup.job setup.requests) (who :
       stay_none (after setup who view (entry.Met l t)) more a (counts_none setup.job view.func view.counts t (a.count ∙ none) ∙ e)
   stay_none view (entry.Marked l r ∷ more) a e = stay_none view more a e
   stay_none view (entry.Turned r ∷ more) a e =
-      let k = turned (change_of setup r who.node) refl in
+      let k = turned (change_by setup r who.node) refl in
       stay_none (after setup who view (entry.Turned r)) more k.0 k.1
     where
-      turned : (o : Option Change) → change_of setup r who.node ≡ o → AreAlike setup.job.edges who.node def.func (with_change o view).func × ((with_change o view).counts ≡ empty)
+      turned : (o : Option Change) → change_by setup r who.node ≡ o → AreAlike setup.job.edges who.node def.func (after_change o view).func × ((after_change o view).counts ≡ empty)
       turned None g = (a, e)
       turned (Some change) g = (changed_alike setup r who.node def change kinds there g, carried_none change.carry view.counts e)
   stay_none view (entry.Ended l ∷ more) a e = stay_none (after setup who view (entry.Ended l)) more a e

@@ -15,7 +15,7 @@ use Rattle.jobs.specs.Nodes.{is_count}
 use Rattle.jobs.specs.JobView.{JobView}
 use Rattle.jobs.specs.declared.func.NodeDef.{NodeDef}
 use Rattle.keyed_state.specs.Counts.{Counts}
-use Rattle.payments.specs.Spelling.{number_of}
+use Rattle.payments.specs.Spelling.{number_in_text}
 use Rattle.flow_model.specs.Begin.{Begin}
 use Rattle.flow_model.specs.SetupView.{SetupView, Worker}
 use Rattle.flow_model.specs.Requests.{afters}
@@ -29,8 +29,8 @@ use Rattle.jobs.specs.declared.limits.TheConstants.{TEXT_MAX}
 -- ---- records and what they spell
 
 -- the field is exactly this text
-abbrev pub is_text : List ℕ → List ℕ → Bool
-is_text wanted cell = pointwise nat_eq cell wanted
+abbrev pub is_exactly : List ℕ → List ℕ → Bool
+is_exactly wanted cell = pointwise nat_eq cell wanted
 
 -- a number of the first record: digits, below 2^63
 abbrev pub head_number : List ℕ → Option ℕ
@@ -45,7 +45,7 @@ both (Some a) (Some b) = Some (a, b)
 -- the row and the number of requests of a first record
 abbrev pub head_of : List (List ℕ) → Option (ℕ × ℕ)
 head_of (fries ∷ save ∷ row ∷ turned ∷ []) =
-    if is_text (codes "fries") fries && is_text (codes "save") save
+    if is_exactly (codes "fries") fries && is_exactly (codes "save") save
     then both (head_number row) (head_number turned) else None
 head_of _ = None
 
@@ -65,7 +65,7 @@ spelled_by name key (Some (place, count)) =
 -- what a later record spells
 abbrev pub spelled_of : List (List ℕ) → Option Spelled
 spelled_of (name ∷ place ∷ key ∷ count ∷ []) =
-    spelled_by name key (both (number_of place) (number_of count))
+    spelled_by name key (both (number_in_text place) (number_in_text count))
 spelled_of _ = None
 
 -- one more before the later ones, or their fault
@@ -111,7 +111,7 @@ is_led_to job key who = place_of_key (slice_get job.nodes who.node) key == who.p
 abbrev pub is_worker_of : JobView → Spelled → Worker → Bool
 is_worker_of job spelled who =
     is_count who.func
-    && (is_text (name_of (slice_get job.nodes who.node)) spelled.name
+    && (is_exactly (name_of (slice_get job.nodes who.node)) spelled.name
     && (is_place spelled.place who.place && is_led_to job spelled.key who))
 
 -- the count at the worker with this number

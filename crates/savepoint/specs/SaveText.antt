@@ -26,13 +26,13 @@ name_of None = []
 name_of (Some def) = def.name
 
 -- the records of a worker, in the order of its keys by their bytes
-abbrev pub worker_records : JobView → Worker × Counts → List (List (List ℕ))
-worker_records job (who, counts) =
+abbrev pub records_of_worker : JobView → Worker × Counts → List (List (List ℕ))
+records_of_worker job (who, counts) =
     map (count_record (name_of (slice_get job.nodes who.node)) who.place) (entries counts)
 
 -- the records of all counts: the workers come in the order of their numbers
 abbrev pub count_records : JobView → List Counts → List (List (List ℕ))
-count_records job states = flat_map (worker_records job) (zip (workers_in job) states)
+count_records job states = flat_map (records_of_worker job) (zip (workers_in job) states)
 
 -- all records
 abbrev pub save_records : JobView → Begin → List (List (List ℕ))

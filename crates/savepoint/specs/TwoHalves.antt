@@ -29,7 +29,7 @@ counting by = func.Count (record { key = 0; add = operand.Number by; into = 1 })
 abbrev pub tallied : JobView
 tallied = job_view_as
     (record { name = codes "name"; kind = kind.Text; own = false }
-    ∷ record { name = codes "seen"; kind = kind.Number; own = true }
+    ∷ record { name = codes "has_count"; kind = kind.Number; own = true }
     ∷ [])
     (node_of (codes "card") func.Source
     ∷ node_of (codes "tally") (counting (pos 1))
@@ -49,47 +49,47 @@ abbrev pub tally_setup : SetupView
 tally_setup = setup_view_of tallied (by_ten ∷ []) (filter_alone ∷ []) 0 false
 
 -- a row of one name, with the name's count so far
-abbrev pub named : ℕ → ℤ → ℕ → List Visit → Tuple
-named row seen issued trace = record {
+abbrev pub named_row : ℕ → ℤ → ℕ → List Visit → Tuple
+named_row row has_count issued trace = record {
   row = row;
   birth = [];
   issued = issued;
-  fields = value.Text (codes "ann") ∷ value.Num seen ∷ [];
+  fields = value.Text (codes "ann") ∷ value.Num has_count ∷ [];
   trace = trace;
 }
 
-abbrev pub row_of : ℕ → Row
-row_of number = record { source = 0; tuple = named number (pos 0) 0 [] }
+abbrev pub counted_row : ℕ → Row
+counted_row number = record { source = 0; tuple = named_row number (pos 0) 0 [] }
 
-abbrev pub two_rows : List Row
-two_rows = row_of 1 ∷ row_of 2 ∷ []
+abbrev pub two_named_rows : List Row
+two_named_rows = counted_row 1 ∷ counted_row 2 ∷ []
 
 -- the row after the count, which was under request `last`
 abbrev pub tallied_row : ℕ → ℤ → ℕ → Tuple
-tallied_row row seen last =
-    named row seen last (record { node = 1; worker = 0; last = last } ∷ [])
+tallied_row row has_count last =
+    named_row row has_count last (record { node = 1; worker = 0; last = last } ∷ [])
 
 -- the name has this count
-abbrev pub seen : ℤ → Counts
-seen count = insert empty (codes "ann") count
+abbrev pub has_count : ℤ → Counts
+has_count count = insert empty (codes "ann") count
 
 -- the first row, and the request after it
 abbrev pub first_half : Ran
 first_half = ran_as (first_of tally_setup 1)
     (feed.Fed 1 ∷ feed.Issued 1 ∷ feed.Stopped ∷ [])
-    ((entry.Met 0 (named 1 (pos 0) 0 []) ∷ entry.Turned 1 ∷ entry.Ended 0 ∷ [])
+    ((entry.Met 0 (named_row 1 (pos 0) 0 []) ∷ entry.Turned 1 ∷ entry.Ended 0 ∷ [])
     ∷ (entry.Met 1 (tallied_row 1 (pos 1) 0) ∷ entry.Ended 1 ∷ [])
     ∷ [])
-    (seen (pos 1) ∷ empty ∷ [])
+    (has_count (pos 1) ∷ empty ∷ [])
 
 -- the second row, which raises the name's count to this number
 abbrev pub second_to : ℤ → Ran
 second_to count = ran_as tally_setup
     (feed.Fed 2 ∷ feed.Stopped ∷ [])
-    ((entry.Met 0 (named 2 (pos 0) 1 []) ∷ entry.Ended 0 ∷ [])
+    ((entry.Met 0 (named_row 2 (pos 0) 1 []) ∷ entry.Ended 0 ∷ [])
     ∷ (entry.Met 1 (tallied_row 2 count 1) ∷ entry.Ended 1 ∷ [])
     ∷ [])
-    (insert (seen (pos 1)) (codes "ann") count ∷ empty ∷ [])
+    (insert (has_count (pos 1)) (codes "ann") count ∷ empty ∷ [])
 
 abbrev pub second_half : Ran
 second_half = second_to (pos 11)
@@ -98,9 +98,9 @@ second_half = second_to (pos 11)
 abbrev pub whole : Ran
 whole = ran_as tally_setup
     (feed.Fed 1 ∷ feed.Issued 1 ∷ feed.Fed 2 ∷ feed.Stopped ∷ [])
-    ((entry.Met 0 (named 1 (pos 0) 0 [])
+    ((entry.Met 0 (named_row 1 (pos 0) 0 [])
     ∷ entry.Turned 1
-    ∷ entry.Met 0 (named 2 (pos 0) 1 [])
+    ∷ entry.Met 0 (named_row 2 (pos 0) 1 [])
     ∷ entry.Ended 0
     ∷ [])
     ∷ (entry.Met 1 (tallied_row 1 (pos 1) 0)
@@ -108,7 +108,7 @@ whole = ran_as tally_setup
     ∷ entry.Ended 1
     ∷ [])
     ∷ [])
-    (insert (seen (pos 1)) (codes "ann") (pos 11) ∷ empty ∷ [])
+    (insert (has_count (pos 1)) (codes "ann") (pos 11) ∷ empty ∷ [])
 
 -- ---- records of a savepoint
 

@@ -12,19 +12,19 @@ ghost use Rattle.savepoint.specs.TwoHalves.{
   second_half,
   second_to,
   tally_setup,
-  two_rows,
+  two_named_rows,
   whole,
 };
 
 /// Two halves of a run, of which the second goes on with the first's count, are the whole run.
 pub fn two_halves_are_parts()
-    ensures parts { AreParts tally_setup two_rows 1 first_half second_half }
+    ensures parts { AreParts tally_setup two_named_rows 1 first_half second_half }
     ensures joined { joined tally_setup first_half second_half ≡ whole }
 {}
 
 /// The halves are no parts of a run if the second begins to count anew.
 pub fn a_forgotten_count_is_no_part()
-    ensures { AreParts tally_setup two_rows 1 first_half (second_to (pos 10)) → ⊥ }
+    ensures { AreParts tally_setup two_named_rows 1 first_half (second_to (pos 10)) → ⊥ }
 {}
 
 /// The records of the first half are read as where it ended.

@@ -12,7 +12,7 @@ use Rattle.savepoint.specs.Parts.{issued_up_to}
 use Rattle.savepoint.specs.SaveReading.{Placed, Spelled, begin_at, begin_by, begin_in, begin_with, counts_at, head_of, one_more, one_placed, one_spelled, placed_from, placed_of, spelled_from, spelled_of, stands_behind}
 use Rattle.savepoint.specs.declared.fault.SaveFault.{SaveFault}
 use Rattle.savepoint.specs.declared.fault.SaveFault.TheVariants as fault
-use Rattle.savepoint_file.specs.Steps.{after, one_read, placed_in, read_from, there}
+use Rattle.savepoint_file.specs.Steps.{with_those_after, one_read, placed_in, read_from, there}
 
 -- ---- records of another form
 
@@ -34,26 +34,26 @@ no_spelling (a ∷ b ∷ c ∷ d ∷ e ∷ more) n = refl
 
 -- ---- what is read, and then the rest
 
-pub after-more : {A : Type 0} (first : List A) (item : A) (later : Result (List A) SaveFault) → after first (one_more item later) ≡ after (first ++ item ∷ []) later
+pub after-more : {A : Type 0} (first : List A) (item : A) (later : Result (List A) SaveFault) → with_those_after first (one_more item later) ≡ with_those_after (first ++ item ∷ []) later
 after-more first item (Ok later) = ap Ok (sym (append_assoc first (item ∷ []) later))
 after-more first item (Err fault) = refl
 
 -- one record more
 pub read-more : (job : JobView) (number : ℕ) (counts : List (Option Placed)) (placed : Option Placed) (cells : List (List ℕ)) (old new : List (List (List ℕ)))
     → old ≡ cells ∷ new → option_map (placed_of job) (spelled_of cells) ≡ Some placed
-    → after (counts ++ placed ∷ []) (read_from job (number + 1) new) ≡ after counts (read_from job number old)
+    → with_those_after (counts ++ placed ∷ []) (read_from job (number + 1) new) ≡ with_those_after counts (read_from job number old)
 read-more job number counts placed cells old new is made =
     sym (after-more counts placed (read_from job (number + 1) new))
-    ∙ (ap (λ o. after counts (one_read number o (read_from job (number + 1) new))) (sym made) ∙ ap (λ rs. after counts (read_from job number rs)) (sym is))
+    ∙ (ap (λ o. with_those_after counts (one_read number o (read_from job (number + 1) new))) (sym made) ∙ ap (λ rs. with_those_after counts (read_from job number rs)) (sym is))
 
-pub read-end : (job : JobView) (number : ℕ) (counts : List (Option Placed)) (old : List (List (List ℕ))) → old ≡ [] → after counts (read_from job number old) ≡ Ok counts
-read-end job number counts old is = ap (λ rs. after counts (read_from job number rs)) is ∙ ap Ok (append-nil counts)
+pub read-end : (job : JobView) (number : ℕ) (counts : List (Option Placed)) (old : List (List (List ℕ))) → old ≡ [] → with_those_after counts (read_from job number old) ≡ Ok counts
+read-end job number counts old is = ap (λ rs. with_those_after counts (read_from job number rs)) is ∙ ap Ok (append-nil counts)
 
 pub read-fault : (job : JobView) (number : ℕ) (counts : List (Option Placed)) (cells : List (List ℕ)) (old new : List (List (List ℕ)))
-    → old ≡ cells ∷ new → spelled_of cells ≡ None → after counts (read_from job number old) ≡ Err (fault.Shape number)
+    → old ≡ cells ∷ new → spelled_of cells ≡ None → with_those_after counts (read_from job number old) ≡ Err (fault.Shape number)
 read-fault job number counts cells old new is none =
-    ap (λ rs. after counts (read_from job number rs)) is
-    ∙ ap (λ o. after counts (one_read number (option_map (placed_of job) o) (read_from job (number + 1) new))) none
+    ap (λ rs. with_those_after counts (read_from job number rs)) is
+    ∙ ap (λ o. with_those_after counts (one_read number (option_map (placed_of job) o) (read_from job (number + 1) new))) none
 
 -- ---- what is read tells what is spelled
 
@@ -133,7 +133,7 @@ there-none xs i less is = ap there (take-more xs i None less is) ∙ (there-appe
 
 -- one count more comes in order
 pub order-more : (counts : List (Option Placed)) (first i : ℕ) (before : Option Placed) (p : Placed) (x : Option Placed) → i < length counts → x ≡ get_or counts i x → x ≡ Some p → stands_behind before p ≡ true
-    → after (there (take (i + 1) counts)) (placed_in (first + (i + 1)) (Some p) (drop (i + 1) counts)) ≡ after (there (take i counts)) (placed_in (first + i) before (drop i counts))
+    → with_those_after (there (take (i + 1) counts)) (placed_in (first + (i + 1)) (Some p) (drop (i + 1) counts)) ≡ with_those_after (there (take i counts)) (placed_in (first + i) before (drop i counts))
 order-more counts first i before p x lt is some behind =
     let at : get_or counts i (Some p) ≡ Some p = sym (subst (λ z. z ≡ get_or counts i z) some is) in
     let number : first + (i + 1) ≡ (first + i) + 1 = omega arith in
@@ -141,9 +141,9 @@ order-more counts first i before p x lt is some behind =
     let yes : one_placed (first + i) before (Some p) (λ placed. placed_in ((first + i) + 1) (Some placed) (drop (i + 1) counts)) ≡ one_more p rest = rw behind refl in
     let here : placed_in (first + i) before (drop i counts) ≡ one_more p rest =
     ap (placed_in (first + i) before) (drop_more counts i (Some p) lt ∙ ap (λ z. z ∷ drop (i + 1) counts) at) ∙ yes in
-    ap (λ n. after (there (take (i + 1) counts)) (placed_in n (Some p) (drop (i + 1) counts))) number
-    ∙ (ap (λ l. after l rest) (there-some counts i p lt at)
-    ∙ (sym (after-more (there (take i counts)) p rest) ∙ ap (after (there (take i counts))) (sym here)))
+    ap (λ n. with_those_after (there (take (i + 1) counts)) (placed_in n (Some p) (drop (i + 1) counts))) number
+    ∙ (ap (λ l. with_those_after l rest) (there-some counts i p lt at)
+    ∙ (sym (after-more (there (take i counts)) p rest) ∙ ap (with_those_after (there (take i counts))) (sym here)))
 
 -- ---- the whole text
 

@@ -13,8 +13,8 @@ node_records name place (counts ∷ states) =
     map (count_record name place) (entries counts) ++ node_records name (place + 1) states
 
 -- the counts of nodes, each of which has as many of the states as it has workers
-abbrev pub nodes_records : List NodeDef → List Counts → List (List (List ℕ))
-nodes_records [] states = []
-nodes_records (node ∷ nodes) states =
+abbrev pub nodes_count_records : List NodeDef → List Counts → List (List (List ℕ))
+nodes_count_records [] states = []
+nodes_count_records (node ∷ nodes) states =
     node_records node.name 0 (take (workers_of node) states)
-    ++ nodes_records nodes (drop (workers_of node) states)
+    ++ nodes_count_records nodes (drop (workers_of node) states)

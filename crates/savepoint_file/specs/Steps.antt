@@ -52,10 +52,11 @@ there (None ∷ more) = there more
 there (Some x ∷ more) = x ∷ there more
 
 -- items, followed by those that are still to come, or their fault
-abbrev pub after : {A : Type 0} → List A → Result (List A) SaveFault → Result (List A) SaveFault
-after first (Ok later) = Ok (first ++ later)
-after first (Err fault) = Err fault
+abbrev pub with_those_after : {A : Type 0} → List A
+    → Result (List A) SaveFault → Result (List A) SaveFault
+with_those_after first (Ok later) = Ok (first ++ later)
+with_those_after first (Err fault) = Err fault
 
 -- of `rows` rows: the request is issued up to `row`
-abbrev pub is_issued : ℕ → ℕ → Request → Bool
-is_issued row rows request = nat_le (min request.after rows) row
+abbrev pub is_issued_up_to : ℕ → ℕ → Request → Bool
+is_issued_up_to row rows request = nat_le (min request.after rows) row

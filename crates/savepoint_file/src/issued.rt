@@ -2,7 +2,7 @@ ghost use Rattle.std.specs.Prelude.{◌≡◌, filter, length};
 ghost use Rattle.flow_model.specs.Requests.{afters};
 ghost use Rattle.flow_model.specs.Setup.{setup_view};
 ghost use Rattle.savepoint.specs.Parts.{issued_up_to as issued_up_to_of};
-ghost use Rattle.savepoint_file.specs.Steps.{is_issued};
+ghost use Rattle.savepoint_file.specs.Steps.{is_issued_up_to};
 
 use flow_model::Setup;
 use versions::Request;
@@ -17,7 +17,7 @@ pub fn issued_up_to(setup: &Setup, row: u64, rows: u64) -> u64
 }
 
 fn issued_in(requests: &[Request], row: u64, rows: u64) -> usize
-    ensures { result ≡ length (filter (is_issued row rows) requests.now) }
+    ensures { result ≡ length (filter (is_issued_up_to row rows) requests.now) }
 {
     requests
         .iter()

@@ -4,7 +4,7 @@ ghost use Rattle.jobs.specs.Job.{job_view};
 ghost use Rattle.jobs.specs.Nodes.{worker_count};
 ghost use Rattle.sink_journal.specs.Records.{record_text, records_text};
 ghost use Rattle.savepoint.specs.SaveText.{count_record, count_records};
-ghost use Rattle.savepoint_file.specs.ByNode.{node_records, nodes_records};
+ghost use Rattle.savepoint_file.specs.ByNode.{node_records, nodes_count_records};
 
 use crate::cells::Cells;
 use crate::sheet::Sheet;
@@ -81,7 +81,7 @@ impl SaveSheet {
     fn write_nodes(&mut self, nodes: &[NodeDef], states: &[Keyed]) -> Result<(), NoMemory>
         requires { length states.now ≡ worker_count nodes.now }
         ensures { OnOk result (self.new ≡
-            self.old ++ records_text (nodes_records nodes.now states.now)) }
+            self.old ++ records_text (nodes_count_records nodes.now states.now)) }
     {
         let mut left = states;
         for node in nodes {

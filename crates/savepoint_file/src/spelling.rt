@@ -1,6 +1,6 @@
 // Numbers, as the cells of a savepoint spell them.
 ghost use Rattle.std.specs.Prelude.{◌≡◌};
-ghost use Rattle.payments.specs.Spelling.{after_sign, is_negative, number_of, signed_of};
+ghost use Rattle.payments.specs.Spelling.{after_sign, is_negative, number_in_text, signed_of};
 ghost use Rattle.savepoint.specs.SaveReading.{head_number as head_number_of};
 
 use tuple_trace::digits_up_to;
@@ -8,7 +8,7 @@ use tuple_trace::digits_up_to;
 /// The number that a cell spells: an optional `-` and digits. `None` if it is no `i64`.
 #[tactic(auto, using(crate::proofs::SpellingLemmas::with_sign_read))]
 pub(crate) fn number(text: &[u8]) -> Option<i64>
-    ensures { result ≡ number_of text.now }
+    ensures { result ≡ number_in_text text.now }
 {
     let (negative, rest) = signed(text);
     in_range(negative, digits_up_to(rest, u64::MAX)?)

@@ -10,7 +10,7 @@ use Rattle.flow_model.specs.Requests.{changes}
 use Rattle.flow_model.specs.Run.{Ran}
 use Rattle.flow_model.specs.Serial.{newest}
 use Rattle.flow_model.specs.Whole.{after_turn, any_after, is_new, is_turn, journals_at, meets_row}
-use Rattle.serial_order.specs.Places.{meets_new, numbered, row_met}
+use Rattle.serial_order.specs.Places.{meets_new, rows_numbered, row_met}
 use Rattle.serial_order.proofs.NumberedLemmas.{none_pass, numbered-same, numbered-split}
 
 -- ---- a journal
@@ -56,23 +56,23 @@ met-none (entry.Ended lane) other e = refl
 
 -- an entry after the turn
 pub step-after : (request : ℕ) (e : Entry) (more : List Entry) (xs : List ℕ)
-    → numbered (λ row. meets_row row (rest_after true request more)) request 1 (numbered (λ row. meets_row row (e ∷ [])) request 1 xs)
-    ≡ numbered (λ row. meets_row row (rest_after true request (e ∷ more))) request 1 xs
+    → rows_numbered (λ row. meets_row row (rest_after true request more)) request 1 (rows_numbered (λ row. meets_row row (e ∷ [])) request 1 xs)
+    ≡ rows_numbered (λ row. meets_row row (rest_after true request (e ∷ more))) request 1 xs
 step-after request e more xs =
     numbered-split (λ row. meets_row row (e ∷ [])) (λ row. meets_row row more) (λ row. meets_row row (e ∷ more)) request 1 xs (λ row. meets_first row e more)
 
 -- an entry up to the turn
 pub step-before : (request : ℕ) (e : Entry) (more : List Entry) (xs : List ℕ)
-    → numbered (λ row. meets_row row (rest_after (is_turn request e) request more)) request 1 xs ≡ numbered (λ row. meets_row row (rest_after false request (e ∷ more))) request 1 xs
+    → rows_numbered (λ row. meets_row row (rest_after (is_turn request e) request more)) request 1 xs ≡ rows_numbered (λ row. meets_row row (rest_after false request (e ∷ more))) request 1 xs
 step-before request e more xs =
-    ap (λ (l : List Entry). numbered (λ row. meets_row row l) request 1 xs) (sym (rest_not_turned request e more))
+    ap (λ (l : List Entry). rows_numbered (λ row. meets_row row l) request 1 xs) (sym (rest_not_turned request e more))
 
 -- once all entries are looked at, no row is left
 pub step-end : (turned : Bool) (request : ℕ) (journal : List Entry) (xs : List ℕ) → journal ≡ []
-    → numbered (λ row. meets_row row (rest_after turned request journal)) request 1 xs ≡ xs
+    → rows_numbered (λ row. meets_row row (rest_after turned request journal)) request 1 xs ≡ xs
 step-end turned request journal xs e = rw e (go turned)
   where
-    go : (b : Bool) → numbered (λ row. meets_row row (rest_after b request [])) request 1 xs ≡ xs
+    go : (b : Bool) → rows_numbered (λ row. meets_row row (rest_after b request [])) request 1 xs ≡ xs
     go true = none_pass request 1 xs
     go false = none_pass request 1 xs
 
@@ -103,8 +103,8 @@ drop_get (y ∷ xs) (suc i) x g =
 
 -- the next worker is of a node that the request changes
 pub worker-changed : (ran : Ran) (request w : ℕ) (workers : List Worker) (who : Worker) (xs : List ℕ) → slice_get workers w ≡ Some who → who.number ≡ w → changes ran.setup request who.node ≡ true
-    → numbered (λ row. list_any (is_new_at ran request row) (drop (w + 1) workers)) request 1 (numbered (λ row. meets_new request row (slice_get ran.journals w)) request 1 xs)
-    ≡ numbered (λ row. list_any (is_new_at ran request row) (drop w workers)) request 1 xs
+    → rows_numbered (λ row. list_any (is_new_at ran request row) (drop (w + 1) workers)) request 1 (rows_numbered (λ row. meets_new request row (slice_get ran.journals w)) request 1 xs)
+    ≡ rows_numbered (λ row. list_any (is_new_at ran request row) (drop w workers)) request 1 xs
 worker-changed ran request w workers who xs there number changed =
     numbered-split (λ row. meets_new request row (slice_get ran.journals w)) (λ row. list_any (is_new_at ran request row) (drop (w + 1) workers))
     (λ row. list_any (is_new_at ran request row) (drop w workers)) request 1 xs
@@ -114,7 +114,7 @@ worker-changed ran request w workers who xs there number changed =
 
 -- it is of another node
 pub worker-unchanged : (ran : Ran) (request w : ℕ) (workers : List Worker) (who : Worker) (xs : List ℕ) → slice_get workers w ≡ Some who → changes ran.setup request who.node ≡ false
-    → numbered (λ row. list_any (is_new_at ran request row) (drop (w + 1) workers)) request 1 xs ≡ numbered (λ row. list_any (is_new_at ran request row) (drop w workers)) request 1 xs
+    → rows_numbered (λ row. list_any (is_new_at ran request row) (drop (w + 1) workers)) request 1 xs ≡ rows_numbered (λ row. list_any (is_new_at ran request row) (drop w workers)) request 1 xs
 worker-unchanged ran request w workers who xs there unchanged =
     numbered-same (λ row. list_any (is_new_at ran request row) (drop (w + 1) workers)) (λ row. list_any (is_new_at ran request row) (drop w workers)) request 1 xs
     (λ row. sym (ap (list_any (is_new_at ran request row)) (drop_get workers w who there)
@@ -132,9 +132,9 @@ zeros-first (x ∷ xs) = ap (λ (l : List ℕ). 0 ∷ l) (zeros-first xs)
 
 -- one request more
 pub newest_next : (ran : Ran) (r first : ℕ) (rows : List Row) → ((i : ℕ) (row : Row) → slice_get rows i ≡ Some row → row.tuple.row ≡ first + i)
-    → numbered (is_new ran (suc r)) (suc r) first (map (λ (row : Row). newest ran row.tuple.row r) rows) ≡ map (λ (row : Row). newest ran row.tuple.row (suc r)) rows
+    → rows_numbered (is_new ran (suc r)) (suc r) first (map (λ (row : Row). newest ran row.tuple.row r) rows) ≡ map (λ (row : Row). newest ran row.tuple.row (suc r)) rows
 newest_next ran r first [] are = refl
 newest_next ran r first (row ∷ rows) are =
     let e : first ≡ row.tuple.row = (let f : row.tuple.row ≡ first + 0 = are 0 row refl in omega arith) in
-    ap (λ k. cond (is_new ran (suc r) k) (suc r) (newest ran row.tuple.row r) ∷ numbered (is_new ran (suc r)) (suc r) (first + 1) (map (λ (row : Row). newest ran row.tuple.row r) rows)) e
+    ap (λ k. cond (is_new ran (suc r) k) (suc r) (newest ran row.tuple.row r) ∷ rows_numbered (is_new ran (suc r)) (suc r) (first + 1) (map (λ (row : Row). newest ran row.tuple.row r) rows)) e
     ∙ ap (λ (l : List ℕ). newest ran row.tuple.row (suc r) ∷ l) (newest_next ran r (first + 1) rows (λ i other g. let f : other.tuple.row ≡ first + suc i = are (suc i) other g in omega arith))

@@ -4,7 +4,7 @@ use Rattle.jobs.specs.declared.func.Func.{Func}
 use Rattle.jobs.specs.declared.func.NodeDef.{NodeDef}
 use Rattle.versions.specs.declared.request.Change.{Change}
 use Rattle.flow_model.specs.SetupView.{SetupView}
-use Rattle.flow_model.specs.Requests.{change_of, func_after, func_with}
+use Rattle.flow_model.specs.Requests.{change_by, func_after, func_with}
 use Rattle.flow_model.specs.Serial.{func_of_node}
 
 -- the functions of these nodes after the first k requests; the first node has this number
@@ -27,9 +27,9 @@ funcs-more setup k node nodes table def e =
     ∙ ap (λ (l : List NodeDef). table ++ funcs_from setup k node l) (sym e)
 
 -- one request more
-pub func-next : (setup : SetupView) (node : ℕ) (func : Func) (place : ℕ) (change : Option Change) (latest : Func) → change ≡ change_of setup (place + 1) node → latest ≡ func_after setup node func place
+pub func-next : (setup : SetupView) (node : ℕ) (func : Func) (place : ℕ) (change : Option Change) (latest : Func) → change ≡ change_by setup (place + 1) node → latest ≡ func_after setup node func place
     → func_with change latest ≡ func_after setup node func (place + 1)
 func-next setup node func place change latest c l =
     let e : suc place ≡ place + 1 = omega arith in
-    subst (λ k. change ≡ change_of setup k node → func_with change latest ≡ func_after setup node func k) e
-    (λ h. ap (λ o. func_with o latest) h ∙ ap (func_with (change_of setup (suc place) node)) l) c
+    subst (λ k. change ≡ change_by setup k node → func_with change latest ≡ func_after setup node func k) e
+    (λ h. ap (λ o. func_with o latest) h ∙ ap (func_with (change_by setup (suc place) node)) l) c

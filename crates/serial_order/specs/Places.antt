@@ -7,10 +7,10 @@ use Rattle.tuple_trace.specs.declared.tuple.Tuple.{Tuple}
 use Rattle.flow_model.specs.Whole.{after_turn, meets_row}
 
 -- the rows that pass the test have this number; the list begins with `row`
-abbrev pub numbered : (ℕ → Bool) → ℕ → ℕ → List ℕ → List ℕ
-numbered test number row [] = []
-numbered test number row (old ∷ more) =
-    (if test row then number else old) ∷ numbered test number (row + 1) more
+abbrev pub rows_numbered : (ℕ → Bool) → ℕ → ℕ → List ℕ → List ℕ
+rows_numbered test number row [] = []
+rows_numbered test number row (old ∷ more) =
+    (if test row then number else old) ∷ rows_numbered test number (row + 1) more
 
 -- the row of the tuple that an entry met
 abbrev pub row_met : Entry → Option ℕ

@@ -1,7 +1,7 @@
 // The numbers of rows, by the rows that a journal meets.
 ghost use Rattle.std.specs.Prelude.{◌≡◌, ◌==◌, ◌∷◌, []};
 ghost use Rattle.flow_model.specs.Whole.{after_turn, is_turn as is_turn_of, meets_row};
-ghost use Rattle.serial_order.specs.Places.{numbered, row_met};
+ghost use Rattle.serial_order.specs.Places.{rows_numbered, row_met};
 
 use crate::Serial;
 use sink_journal::Entry;
@@ -11,7 +11,8 @@ use sink_journal::Entry;
 /// The first number is that of row 1. A row without a number is passed over.
 pub(crate) fn number_after_turn(journal: &[Entry], request: u64, numbers: &mut Serial)
     ensures { numbers.new ≡
-        numbered (λ row. meets_row row (after_turn request journal.now)) request 1 numbers.old }
+        rows_numbered (λ row. meets_row row (after_turn request journal.now))
+        request 1 numbers.old }
 {
     let mut turned = false;
     for entry in journal {
@@ -23,7 +24,8 @@ pub(crate) fn number_after_turn(journal: &[Entry], request: u64, numbers: &mut S
 }
 
 fn number_met(entry: &Entry, request: u64, numbers: &mut Serial)
-    ensures { numbers.new ≡ numbered (λ row. meets_row row (entry.now ∷ [])) request 1 numbers.old }
+    ensures { numbers.new
+        ≡ rows_numbered (λ row. meets_row row (entry.now ∷ [])) request 1 numbers.old }
 {
     if let Some(row) = met_row(entry) {
         number_row(row, request, numbers);
@@ -40,7 +42,7 @@ fn met_row(entry: &Entry) -> Option<u64>
 }
 
 fn number_row(row: u64, request: u64, numbers: &mut Serial)
-    ensures { numbers.new ≡ numbered (λ other. row == other) request 1 numbers.old }
+    ensures { numbers.new ≡ rows_numbered (λ other. row == other) request 1 numbers.old }
 {
     let Some(place) = row.checked_sub(1) else {
         return;

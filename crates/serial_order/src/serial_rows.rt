@@ -4,7 +4,7 @@ ghost use Rattle.flow_model.specs.Requests.{changes};
 ghost use Rattle.flow_model.specs.Setup.{setup_view};
 ghost use Rattle.flow_model.specs.Whole.{is_new};
 ghost use Rattle.versions.specs.Book.{is_named as is_named_in};
-ghost use Rattle.serial_order.specs.Places.{meets_new, numbered};
+ghost use Rattle.serial_order.specs.Places.{meets_new, rows_numbered};
 ghost use Rattle.serial_order.specs.Serials.{serials};
 
 use crate::places::number_after_turn;
@@ -44,7 +44,8 @@ fn zeros(alloc: Global, count: usize) -> Result<Serial, NoMemory>
 
 // Gives the rows that are new at a request the request's number.
 fn number_new(ran: &RunRecord, request: u64, numbers: &mut Serial)
-    ensures { numbers.new ≡ numbered (is_new (record_view ran.now) request) request 1 numbers.old }
+    ensures { numbers.new
+        ≡ rows_numbered (is_new (record_view ran.now) request) request 1 numbers.old }
 {
     for worker in 0..ran.setup.workers() {
         if is_changed(&ran.setup, request, ran.setup.node_of(worker)) {
@@ -56,7 +57,8 @@ fn number_new(ran: &RunRecord, request: u64, numbers: &mut Serial)
 // Gives the rows that a worker meets after its turn of a request the request's number.
 fn number_at_worker(ran: &RunRecord, worker: u32, request: u64, numbers: &mut Serial)
     ensures { numbers.new ≡
-        numbered (λ row. meets_new request row (slice_get (record_view ran.now).journals worker))
+        rows_numbered (λ row. meets_new request row
+        (slice_get (record_view ran.now).journals worker))
         request 1 numbers.old }
 {
     if let Some(journal) = ran.journals.as_slice().get(worker as usize) {

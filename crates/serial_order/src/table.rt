@@ -1,6 +1,6 @@
 ghost use Rattle.std.specs.Prelude.{◌≡◌, ℕ, IfOk, slice_get};
 ghost use Rattle.flow_model.specs.Requests.{func_after as func_after_of};
-ghost use Rattle.flow_model.specs.Serial.{table_at as table_at_of};
+ghost use Rattle.flow_model.specs.Serial.{funcs_after as table_at_of};
 ghost use Rattle.flow_model.specs.Setup.{setup_view};
 
 use flow_model::Setup;

@@ -11,7 +11,7 @@ use Rattle.tuple_trace.specs.declared.row.Row.{Row}
 use Rattle.tuple_trace.specs.declared.tuple.Item.TheVariants as item
 use Rattle.tuple_trace.specs.declared.tuple.Tuple.{Tuple}
 use Rattle.flow_model.specs.Begin.{Begin}
-use Rattle.flow_model.specs.Feeding.{fed_put, fed_puts, fed_tuple, row_at}
+use Rattle.flow_model.specs.Feeding.{fed_put, fed_puts, fed_tuple, row_numbered}
 use Rattle.flow_model.specs.Replay.{Put}
 use Rattle.flow_model.specs.Requests.{afters}
 use Rattle.flow_model.specs.Run.{Ran}
@@ -28,7 +28,7 @@ use Rattle.stream_border.proofs.MeetLemmas.{none_met}
 
 -- ---- what is fed
 
-row_within : (rows : List Row) (n : ℕ) (row : Row) → row_at rows n ≡ Some row → n ≤ length rows
+row_within : (rows : List Row) (n : ℕ) (row : Row) → row_numbered rows n ≡ Some row → n ≤ length rows
 row_within rows zero row e = absurd (cc)
 row_within rows (suc place) row e = let lt : place < length rows =
     slice_get_within rows place row e in omega arith
@@ -40,11 +40,11 @@ puts_within : (job : JobView) (rows : List Row) (k issued : ℕ) (feeds : List F
     × (t.row ≤ length rows)
 puts_within job rows k issued [] p t are f h e = absurd h
 puts_within job rows k issued (feed.Fed n ∷ more) p t are f h e =
-    go (row_at rows n) refl h
+    go (row_numbered rows n) refl h
     (λ i. let both = puts_within job rows n issued more p t are f.1 i e in let lt = f.0 in
     (omega (arith, both.0, lt), both.1))
   where
-    go : (o : Option Row) → row_at rows n ≡ o
+    go : (o : Option Row) → row_numbered rows n ≡ o
         → IsIn p (fed_put job issued o ++ fed_puts job rows issued more)
         → (IsIn p (fed_puts job rows issued more) → (k < t.row) × (t.row ≤ length rows))
         → (k < t.row) × (t.row ≤ length rows)

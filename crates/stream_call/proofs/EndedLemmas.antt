@@ -25,7 +25,7 @@ use Rattle.stream_intake.specs.Intake.{IsKnownTo}
 use Rattle.stream_intake.specs.declared.known.Known.{Known}
 use Rattle.stream_run.specs.Growing.{Goes, GoesAndStops, IsBooked, Names, parts_in}
 use Rattle.stream_run.specs.Parts.{HasCome, with_all, with_one}
-use Rattle.stream_run.specs.Standing.{Begins, Holds, saved_text}
+use Rattle.stream_run.specs.Standing.{Begins, FileHolds, saved_text}
 use Rattle.stream_run.specs.declared.books.Books.{Books}
 use Rattle.stream_run.proofs.PartLemmas.{First, Later, if_some, length-blanks}
 use Rattle.stream_parts.specs.End.{IsLastRun}
@@ -109,14 +109,14 @@ run-last later first stream source setup left last (Some so) come =
 pub saved-at : (terms : Terms) (stream next : Stream) (old books : Books)
     (before after : Option Files) → next ≡ stream
     → (goes : Goes terms.names [] stream before next after) × IsBooked goes.written old books
-    → IfSome terms.every (λ every. Holds after terms.names.save
+    → IfSome terms.every (λ every. FileHolds after terms.names.save
     (saved_text next books.read books.tally.alerts books.tally.audit))
     → (saved : IsSavedAt terms stream books before after)
     × IsBooked saved.goes.written old books
 saved-at terms stream next old books before after same goes holds =
     subst (λ (s : Stream).
     (g : Goes terms.names [] stream before s after) × IsBooked g.written old books
-    → IfSome terms.every (λ every. Holds after terms.names.save
+    → IfSome terms.every (λ every. FileHolds after terms.names.save
     (saved_text s books.read books.tally.alerts books.tally.audit))
     → (saved : IsSavedAt terms stream books before after)
     × IsBooked saved.goes.written old books) (sym same)

@@ -12,7 +12,7 @@ use Rattle.fries_words.specs.declared.stream.StreamFiles.{StreamFiles}
 use Rattle.stream_call.specs.Opened.{Opens}
 use Rattle.stream_call.specs.Ended.{Early, EndsWhole, HasStopped, IsLeftBy}
 use Rattle.stream_call.specs.Ended.{IsUnprinted}
-use Rattle.stream_call.specs.Ended.{Unprinted, end_lines, leaves, terms_of}
+use Rattle.stream_call.specs.Ended.{Unprinted, end_lines, stream_leaves, terms_of}
 use Rattle.stream_call.specs.declared.fault.StreamFault.{StreamFault}
 use Rattle.stream_call.specs.declared.opened.Opened.{Opened}
 
@@ -32,24 +32,24 @@ pub stopped-by : (asked : StreamFiles) (old new : World) (before after : TapStat
     (rows : ℕ) (fault : Option StreamFault) (why : StreamFault)
     → Opens asked old.shelf shelf opened
     → IfSome fault (IsLeftBy (terms_of asked opened) (Begun opened shelf before) shelf.faults
-    (leaves inputs after new.shelf))
+    (stream_leaves inputs after new.shelf))
     → IfNone fault (EndsWhole (terms_of asked opened) (Begun opened shelf before)
-    (leaves inputs after new.shelf))
+    (stream_leaves inputs after new.shelf))
     → refused ≡ inputs.refused → rows ≡ fed_of inputs.reader - opened.stream.start.row
     → (fault ≡ Some why) ⊎ (fault ≡ None) × IsUnprinted (end_lines inputs rows) old.out why
     → HasStopped asked old new before after refused why
 stopped-by asked old new before after refused opened shelf inputs rows fault why opens left whole
     refused_is rows_is (inl is) =
     let by : IsLeftBy (terms_of asked opened) (Begun opened shelf before) shelf.faults
-    (leaves inputs after new.shelf) why =
+    (stream_leaves inputs after new.shelf) why =
     subst (λ (o : Option StreamFault). IfSome o (IsLeftBy (terms_of asked opened)
-    (Begun opened shelf before) shelf.faults (leaves inputs after new.shelf))) is left in
+    (Begun opened shelf before) shelf.faults (stream_leaves inputs after new.shelf))) is left in
     Early opened shelf inputs why opens
     (subst (λ (f : Faults). IsLeftBy (terms_of asked opened) (Begun opened shelf before) f
-    (leaves inputs after new.shelf) why) opens.faults by) refused_is
+    (stream_leaves inputs after new.shelf) why) opens.faults by) refused_is
 stopped-by asked old new before after refused opened shelf inputs rows fault why opens left whole
     refused_is rows_is (inr (is, un)) =
     Unprinted opened shelf inputs why opens
     (subst (λ (o : Option StreamFault). IfNone o (EndsWhole (terms_of asked opened)
-    (Begun opened shelf before) (leaves inputs after new.shelf))) is whole) refused_is
+    (Begun opened shelf before) (stream_leaves inputs after new.shelf))) is whole) refused_is
     (subst (λ (r : ℕ). IsUnprinted (end_lines inputs r) old.out why) rows_is un)

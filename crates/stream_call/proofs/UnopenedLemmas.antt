@@ -7,16 +7,16 @@ use Rattle.payments.specs.Causes.{Faults}
 use Rattle.payments.specs.Files.{Files}
 use Rattle.versions.specs.declared.request.Request.{Request}
 use Rattle.fries_lines.specs.declared.fault.FileIs.TheVariants as file
-use Rattle.fries_steps.specs.Reading.{HasRead, IsJobOf}
+use Rattle.fries_steps.specs.Reading.{HasReadFile, IsJobOf}
 use Rattle.stream_save.specs.StreamReading.{stream_save_of}
 use Rattle.stream_save.specs.StreamText.{StreamSave}
 use Rattle.stream_save.specs.declared.fault.StreamSaveFault.{StreamSaveFault}
 use Rattle.stream_save.specs.declared.fault.StreamSaveFault.TheVariants as save
-use Rattle.stream_intake.specs.Intake.{IsMaskOf}
+use Rattle.stream_intake.specs.Intake.{IsMaskOfNodes}
 use Rattle.fries_words.specs.declared.stream.StreamFiles.{StreamFiles}
 use Rattle.stream_call.specs.Faults.{save_fault_of}
 use Rattle.stream_call.specs.Opened.{AreStreamRequestsOf, IsStreamSaveOf, Resume, resume_of}
-use Rattle.stream_call.specs.Unopened.{AreUnmade, IsNoStreamSave, IsShort, IsUncut, NoFit, NoMemory}
+use Rattle.stream_call.specs.Unopened.{AreUnmade, IsNoStreamSave, IsShorter, StaysUncut, NoFit, NoMemory}
 use Rattle.stream_call.specs.Unopened.{ShortAlerts}
 use Rattle.stream_call.specs.Unopened.{ShortAudit, TellNoStream, TurnedTooMany, Unwritten}
 use Rattle.stream_call.specs.declared.fault.StreamFault.{StreamFault}
@@ -26,7 +26,7 @@ use Rattle.stream_call.specs.declared.fault.StreamFault.TheVariants as stream
 pub unsaved : (files : Option Files) (name : List ℕ) (job : JobView) (old new : Faults)
     (why : StreamSaveFault) → new ≡ old
     → (why ≢ save.NoMemory
-    → HasRead file.Save (λ bytes. stream_save_of job bytes ≡ Err why) files name)
+    → HasReadFile file.Save (λ bytes. stream_save_of job bytes ≡ Err why) files name)
     → IsNoStreamSave files name job old new (save_fault_of why)
 unsaved files name job old new save.NoMemory same is = same
 unsaved files name job old new (save.Shape number) same is =
@@ -50,7 +50,7 @@ module _ (asked : StreamFiles) (files : Option Files) (old new : Faults) (job : 
     (resumed : resume_of asked.saving ≡ Some resume)
     (read : IsStreamSaveOf files resume.save job saved) (same : new ≡ old) where
   abbrev Misses : StreamSaveFault → Type 0
-  Misses why = why ≢ save.NoMemory → (splits : ℕ) → IsMaskOf job.nodes splits
+  Misses why = why ≢ save.NoMemory → (splits : ℕ) → IsMaskOfNodes job.nodes splits
       → TurnedTooMany splits job requests saved why
 
   pub unfit : (why : StreamSaveFault) → Misses why
@@ -77,7 +77,7 @@ module _ (asked : StreamFiles) (files : Option Files) (old new : Faults) (job : 
 
 pub uncut-alerts : (asked : StreamFiles) (files : Option Files) (old new : Faults) (size : ℕ)
     (why : StreamFault)
-    → IsUncut file.Alerts asked.alerts (IsShort files asked.alerts size (save.Alerts size)) old new
+    → StaysUncut file.Alerts asked.alerts (IsShorter files asked.alerts size (save.Alerts size)) old new
     why → AreUnmade asked files old new why
 uncut-alerts asked files old new size why (inl (is, short)) =
     subst (λ (w : StreamFault). AreUnmade asked files old new w) (sym is) (ShortAlerts size short)
@@ -89,7 +89,7 @@ uncut-alerts asked files old new size why (inr (f, is, inr none)) =
 
 pub uncut-audit : (asked : StreamFiles) (files : Option Files) (old new : Faults) (size : ℕ)
     (why : StreamFault)
-    → IsUncut file.Audit asked.audit (IsShort files asked.audit size (save.Audit size)) old new why
+    → StaysUncut file.Audit asked.audit (IsShorter files asked.audit size (save.Audit size)) old new why
     → AreUnmade asked files old new why
 uncut-audit asked files old new size why (inl (is, short)) =
     subst (λ (w : StreamFault). AreUnmade asked files old new w) (sym is) (ShortAudit size short)

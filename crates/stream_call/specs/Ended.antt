@@ -21,7 +21,7 @@ use Rattle.stream_border.specs.Border.{AreExactAfter}
 use Rattle.stream_intake.specs.Intake.{IsKnownTo}
 use Rattle.stream_run.specs.Growing.{Goes, GoesAndStops, IsBooked, Names, parts_in}
 use Rattle.stream_run.specs.Parts.{HasCome, Part, with_all, with_one}
-use Rattle.stream_run.specs.Standing.{Holds, saved_text}
+use Rattle.stream_run.specs.Standing.{FileHolds, saved_text}
 use Rattle.stream_run.specs.Unwritten.{IsUnwritten}
 use Rattle.stream_run.specs.declared.books.Books.{Books}
 use Rattle.stream_parts.specs.End.{IsLastRun, StopsAtEnd}
@@ -55,7 +55,7 @@ terms_of asked opened = terms (names_of asked) (every_of asked.saving) opened.so
 
 -- From its beginning a stream took turns until this end. Of the input that was taken, just the rows
 -- were run that come after its last one.
-pub record HasTurned (names : Names) (begin : StreamState) (why : End) (tap : TapState)
+pub record HasTakenTurns (names : Names) (begin : StreamState) (why : End) (tap : TapState)
     : Type 0 where
   pub stream : Stream
   pub files : Option Files
@@ -69,7 +69,7 @@ pub record HasTurned (names : Names) (begin : StreamState) (why : End) (tap : Ta
 pub record IsSavedAt (terms : Terms) (stream : Stream) (books : Books) (before after : Option Files)
     : Type 0 where
   pub goes : Goes terms.names [] stream before stream after
-  pub holds : IfSome terms.every (λ every. Holds after terms.names.save
+  pub holds : IfSome terms.every (λ every. FileHolds after terms.names.save
       (saved_text stream books.read books.tally.alerts books.tally.audit))
 
 -- The savepoint was written where the stream is. Then the last part was run, and it was written.
@@ -93,8 +93,8 @@ pub record Left : Type 0 where
   pub tap : TapState
   pub shelf : ShelfState
 
-abbrev pub leaves : StreamInputs → TapState → ShelfState → Left
-leaves inputs tap shelf = record { inputs = inputs; tap = tap; shelf = shelf }
+abbrev pub stream_leaves : StreamInputs → TapState → ShelfState → Left
+stream_leaves inputs tap shelf = record { inputs = inputs; tap = tap; shelf = shelf }
 
 -- The inputs are as before, but for the books; and these have read as many requests.
 pub record AreKept (old new : StreamInputs) : Type 0 where
@@ -107,7 +107,7 @@ pub record AreKept (old new : StreamInputs) : Type 0 where
 -- that were accepted are the stream's. Whatever it had run before, that and all parts since are one
 -- run; if it is exact, each request issued since it began to be has its border at its row.
 pub record EndsWhole (terms : Terms) (begin : StreamState) (left : Left) : Type 0 where
-  pub turned : HasTurned terms.names begin end.Input left.tap
+  pub turned : HasTakenTurns terms.names begin end.Input left.tap
   pub all_run : fed_of left.inputs.reader ≡ turned.stream.start.row
   pub ended : HasEndedAt terms turned.stream left.inputs.books turned.files left.shelf.files
   pub kept : AreKept turned.inputs left.inputs
@@ -138,7 +138,7 @@ pub record EndsByInput (terms : Terms) (begin : StreamState) (left : Left) (why 
     : Type 0 where
   pub fault : Fault
   pub why_is : why ≡ stream.Call fault
-  pub turned : HasTurned terms.names begin (end.Fault fault) left.tap
+  pub turned : HasTakenTurns terms.names begin (end.Fault fault) left.tap
   pub is_saved : IsSavedAt terms turned.stream left.inputs.books turned.files left.shelf.files
   pub kept : AreKept turned.inputs left.inputs
   pub booked : IsBooked is_saved.goes.written turned.inputs.books left.inputs.books
@@ -168,7 +168,7 @@ IsUnended terms last before after inputs (stream.Ahead row) = ⊥
 -- All of the input was taken, and the stream isn't ended.
 pub record EndsNot (terms : Terms) (begin : StreamState) (faults : Faults) (left : Left)
     (why : StreamFault) : Type 0 where
-  pub turned : HasTurned terms.names begin end.Input left.tap
+  pub turned : HasTakenTurns terms.names begin end.Input left.tap
   pub shelf : ShelfState
   pub files_are : shelf.files ≡ turned.files
   pub writes : shelf.faults.writes ≡ faults.writes
@@ -211,7 +211,7 @@ pub record HasStreamed (asked : StreamFiles) (old new : World) (before after : T
   pub opens : Opens asked old.shelf shelf opened
   pub inputs : StreamInputs
   pub ended : EndsWhole (terms_of asked opened)
-      (at opened.stream shelf.files opened.inputs before) (leaves inputs after new.shelf)
+      (at opened.stream shelf.files opened.inputs before) (stream_leaves inputs after new.shelf)
   pub refused_are : refused ≡ inputs.refused
   pub prints : Prints (end_lines inputs (fed_of inputs.reader - opened.stream.start.row))
       old.out new.out None
@@ -226,12 +226,12 @@ pub data HasStopped (asked : StreamFiles) (old new : World) (before after : TapS
   Early : (opened : Opened) (shelf : ShelfState) (inputs : StreamInputs) (why : StreamFault)
       → Opens asked old.shelf shelf opened
       → IsLeftBy (terms_of asked opened) (at opened.stream shelf.files opened.inputs before)
-      old.shelf.faults (leaves inputs after new.shelf) why → refused ≡ inputs.refused
+      old.shelf.faults (stream_leaves inputs after new.shelf) why → refused ≡ inputs.refused
       → HasStopped asked old new before after refused why
   -- it ended whole, and the output refused its lines, or memory ran out
   Unprinted : (opened : Opened) (shelf : ShelfState) (inputs : StreamInputs) (why : StreamFault)
       → Opens asked old.shelf shelf opened
       → EndsWhole (terms_of asked opened) (at opened.stream shelf.files opened.inputs before)
-      (leaves inputs after new.shelf) → refused ≡ inputs.refused
+      (stream_leaves inputs after new.shelf) → refused ≡ inputs.refused
       → IsUnprinted (end_lines inputs (fed_of inputs.reader - opened.stream.start.row)) old.out why
       → HasStopped asked old new before after refused why

@@ -9,10 +9,10 @@ use Rattle.stream_call.specs.declared.fault.StreamFault.{StreamFault}
 use Rattle.stream_call.specs.declared.fault.StreamFault.TheVariants as stream
 
 -- the status of a fault: 10 if the savepoint is refused, or the input doesn't fit it
-abbrev pub status_of : StreamFault → ℕ
-status_of (stream.Call why) = status_of_fault why
-status_of (stream.Save why) = 10
-status_of (stream.Ahead row) = 10
+abbrev pub stream_status_of : StreamFault → ℕ
+stream_status_of (stream.Call why) = status_of_fault why
+stream_status_of (stream.Save why) = 10
+stream_status_of (stream.Ahead row) = 10
 
 -- the fault of a stream whose savepoint has this one
 abbrev pub save_fault_of : StreamSaveFault → StreamFault
@@ -25,7 +25,7 @@ save_fault_of (save.Alerts length) = stream.Save (save.Alerts length)
 save_fault_of (save.Audit length) = stream.Save (save.Audit length)
 
 -- the status of a stream: that of its fault; without one 0, and 8 where requests were refused
-abbrev pub status_for : Option StreamFault → List Refused → ℕ
-status_for (Some why) refused = status_of why
-status_for None [] = 0
-status_for None (first ∷ later) = 8
+abbrev pub stream_status_for : Option StreamFault → List Refused → ℕ
+stream_status_for (Some why) refused = stream_status_of why
+stream_status_for None [] = 0
+stream_status_for None (first ∷ later) = 8

@@ -16,13 +16,13 @@ use Rattle.versions.specs.declared.request.Request.{Request}
 use Rattle.flow_model.specs.Setup.{setup_view}
 use Rattle.fries_lines.specs.Lines.{noted}
 use Rattle.fries_lines.specs.declared.fault.FileIs.TheVariants as file
-use Rattle.fries_steps.specs.Reading.{HasRead, IsJobOf}
+use Rattle.fries_steps.specs.Reading.{HasReadFile, IsJobOf}
 use Rattle.stream_rows.specs.Reader.{IsReadTo, fed_of}
 use Rattle.stream_save.specs.StreamReading.{stream_save_of}
 use Rattle.stream_save.specs.StreamText.{StreamSave}
 use Rattle.stream_step.specs.Pending.{exact_from}
 use Rattle.stream_step.specs.Resumed.{IsResumed}
-use Rattle.stream_intake.specs.Intake.{IsMaskOf, judged_in, refused_after}
+use Rattle.stream_intake.specs.Intake.{IsMaskOfNodes, judged_in, refused_after}
 use Rattle.stream_run.specs.Growing.{Names}
 use Rattle.stream_run.specs.Standing.{Begins}
 use Rattle.stream_turns.specs.Turns.{CanTakeTurn}
@@ -85,13 +85,13 @@ pub record IsOpened (asked : StreamFiles) (opened : Opened) (files : Option File
 
 -- the requests are those that the file makes of the job, as many as a stream may have
 abbrev pub AreStreamRequestsOf : Option Files → List ℕ → JobView → List Request → Type 0
-AreStreamRequestsOf files name job requests = HasRead file.Requests
+AreStreamRequestsOf files name job requests = HasReadFile file.Requests
     (λ bytes. requests_up_to MAX_STREAM_REQUESTS job bytes ≡ Ok requests) files name
 
 -- the savepoint is that of the file, for a stream of the job
 abbrev pub IsStreamSaveOf : Option Files → List ℕ → JobView → StreamSave → Type 0
 IsStreamSaveOf files name job save =
-    HasRead file.Save (λ bytes. stream_save_of job bytes ≡ Ok save) files name
+    HasReadFile file.Save (λ bytes. stream_save_of job bytes ≡ Ok save) files name
 
 -- the stream has the job of its file, and all requests of theirs are known
 pub record IsOfFiles (asked : StreamFiles) (files : Option Files) (opened : Opened)
@@ -99,7 +99,7 @@ pub record IsOfFiles (asked : StreamFiles) (files : Option Files) (opened : Open
   pub job : IsJobOf files asked.plan.job (job_view opened.stream.setup.job)
   pub requests : AreStreamRequestsOf files asked.plan.requests
       (job_view opened.stream.setup.job) opened.inputs.known.requests
-  pub splits : IsMaskOf opened.stream.setup.job.nodes opened.stream.setup.splits
+  pub splits : IsMaskOfNodes opened.stream.setup.job.nodes opened.stream.setup.splits
 
 -- The stream begins anew: its input leaves out no row, and none of its requests was issued. Both
 -- files were made, each with its header alone, whose length the books have.

@@ -17,13 +17,13 @@ use Rattle.fries_lines.specs.declared.fault.Fault.{Fault}
 use Rattle.fries_lines.specs.declared.fault.Fault.TheVariants as fault
 use Rattle.fries_lines.specs.declared.fault.FileIs.{FileIs}
 use Rattle.fries_lines.specs.declared.fault.FileIs.TheVariants as file
-use Rattle.fries_steps.specs.Reading.{HasRead, IsJobOf, IsNoJob, IsUnread}
+use Rattle.fries_steps.specs.Reading.{HasReadFile, IsJobOf, IsNoJob, IsUnread}
 use Rattle.stream_rows.specs.declared.limits.TheConstants.{MAX_ROWS}
 use Rattle.stream_save.specs.StreamReading.{stream_save_of}
 use Rattle.stream_save.specs.StreamText.{StreamSave}
 use Rattle.stream_save.specs.declared.fault.StreamSaveFault.{StreamSaveFault}
 use Rattle.stream_save.specs.declared.fault.StreamSaveFault.TheVariants as save
-use Rattle.stream_intake.specs.Intake.{IsMaskOf}
+use Rattle.stream_intake.specs.Intake.{IsMaskOfNodes}
 use Rattle.stream_run.specs.Unwritten.{IsOfFile, IsUnwritten}
 use Rattle.fries_words.specs.declared.stream.StreamFiles.{StreamFiles}
 use Rattle.stream_call.specs.Opened.{AreStreamRequestsOf, IsCutTo, IsStreamSaveOf, Resume, names_of}
@@ -55,7 +55,7 @@ abbrev pub IsNoStreamSave :
 IsNoStreamSave files name job old new (stream.Call why) =
     IsUnread file.Save (λ why bytes. ⊥) files name old new why
 IsNoStreamSave files name job old new (stream.Save why) = (why ≢ save.NoMemory)
-    × HasRead file.Save (λ bytes. stream_save_of job bytes ≡ Err why) files name × (new ≡ old)
+    × HasReadFile file.Save (λ bytes. stream_save_of job bytes ≡ Err why) files name × (new ≡ old)
 IsNoStreamSave files name job old new (stream.Ahead row) = ⊥
 
 -- The savepoint turned more of the requests that it had read than are accepted with this mask of
@@ -71,7 +71,7 @@ TurnedTooMany splits job requests saved why =
 abbrev pub Misfits : JobView → List Request → ℕ → StreamSave → StreamFault → Type 0
 Misfits job requests left_out saved (stream.Call why) = ⊥
 Misfits job requests left_out saved (stream.Save why) =
-    (splits : ℕ) → IsMaskOf job.nodes splits → TurnedTooMany splits job requests saved why
+    (splits : ℕ) → IsMaskOfNodes job.nodes splits → TurnedTooMany splits job requests saved why
 Misfits job requests left_out saved (stream.Ahead row) = (row ≡ saved.start.row)
     × ((row < left_out) ⊎ (MAX_ROWS ≤ row))
 
@@ -102,15 +102,15 @@ pub data TellNoStream (asked : StreamFiles) (files : Option Files) (old new : Fa
 -- ---- the files that are written
 
 -- why a file isn't cut: it is shorter, a write to it failed, or memory ran out
-abbrev pub IsUncut : FileIs → List ℕ → (StreamFault → Type 0) → Faults → Faults → StreamFault
+abbrev pub StaysUncut : FileIs → List ℕ → (StreamFault → Type 0) → Faults → Faults → StreamFault
     → Type 0
-IsUncut is name Short old new why = Short why
+StaysUncut is name Short old new why = Short why
     ⊎ (of : Fault) × (why ≡ stream.Call of)
     × (IsOfFile is name old new of ⊎ (of ≡ fault.NoMemory) × (new ≡ old))
 
 -- the file has fewer bytes than this, and that is the fault
-abbrev pub IsShort : Option Files → List ℕ → ℕ → StreamSaveFault → StreamFault → Type 0
-IsShort files name size short why = (why ≡ stream.Save short)
+abbrev pub IsShorter : Option Files → List ℕ → ℕ → StreamSaveFault → StreamFault → Type 0
+IsShorter files name size short why = (why ≡ stream.Save short)
     × IfSome (told_bytes files name) (λ told. length told < size)
 
 -- only the alerts were made or cut, or nothing was

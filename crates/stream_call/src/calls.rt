@@ -2,9 +2,10 @@ ghost use Rattle.std.specs.Prelude.{◌≡◌, ◌⊎◌, ◌≤◌, ◌-◌, []
 ghost use Rattle.std.specs.Prelude.{OnOk, Some};
 ghost use Rattle.fries_words.specs.Asked.{IsSize};
 ghost use Rattle.stream_run.specs.Standing.{Stands};
-ghost use Rattle.stream_call.specs.Faults.{status_for};
+ghost use Rattle.stream_call.specs.Faults.{stream_status_for};
 ghost use Rattle.stream_call.specs.Ended.{AreKept, EndsWhole, HasEndedAt, HasStreamed, IsLeftBy};
-ghost use Rattle.stream_call.specs.Ended.{HasStopped, IsUnended, IsUnprinted, end_lines, leaves};
+ghost use Rattle.stream_call.specs.Ended.{HasStopped, IsUnended, IsUnprinted, end_lines};
+ghost use Rattle.stream_call.specs.Ended.{stream_leaves};
 ghost use Rattle.stream_call.specs.Ended.{terms, terms_of};
 ghost use Rattle.stream_call.specs.Opened.{IsOpened, Opens, every_of as every_in, names_of};
 ghost use Rattle.stream_call.specs.Unopened.{IsUnopened};
@@ -80,7 +81,7 @@ where
     ensures stopped { IfSome result.fault (HasStopped files.now
         (world (S.state shelf.old) (O.state out.old)) (world (S.state shelf.new) (O.state out.new))
         (T.state tap.old) (T.state tap.new) result.refused) }
-    ensures status { result.status ≡ status_for result.fault result.refused }
+    ensures status { result.status ≡ stream_status_for result.fault result.refused }
 {
     let alloc = host.alloc;
     match open(alloc, files, shelf) {
@@ -99,7 +100,7 @@ fn outcome_of<O: Sink>(alloc: Global, ran: Ran, out: &mut O) -> StreamOutcome
     ensures some { IfSome result.fault (λ why. (ran.fault ≡ Some why)
         ⊎ (ran.fault ≡ None) × IsUnprinted (end_lines ran.inputs ran.rows) (O.state out.old) why) }
     ensures refused { result.refused ≡ ran.inputs.refused }
-    ensures status { result.status ≡ status_for result.fault result.refused }
+    ensures status { result.status ≡ stream_status_for result.fault result.refused }
 {
     let fault = end_fault(alloc, &ran, out);
     let mut inputs = ran.inputs;
@@ -132,7 +133,7 @@ fn outcome_with<O: Sink>(
 ) -> StreamOutcome
     ensures fault { result.fault ≡ fault }
     ensures refused { result.refused ≡ refused }
-    ensures status { result.status ≡ status_for result.fault result.refused }
+    ensures status { result.status ≡ stream_status_for result.fault result.refused }
     ensures none { fault ≡ None → O.state out.new ≡ O.state out.old }
 {
     let status = match fault {
@@ -204,10 +205,11 @@ where
     requires closed { (S.state shelf.old).draft ≡ None }
     ensures whole { IfNone result.fault (EndsWhole (terms_of files.now opened)
         (at opened.stream (S.state shelf.old).files opened.inputs (T.state tap.old))
-        (leaves result.inputs (T.state tap.new) (S.state shelf.new))) }
+        (stream_leaves result.inputs (T.state tap.new) (S.state shelf.new))) }
     ensures left { IfSome result.fault (IsLeftBy (terms_of files.now opened)
         (at opened.stream (S.state shelf.old).files opened.inputs (T.state tap.old))
-        (S.state shelf.old).faults (leaves result.inputs (T.state tap.new) (S.state shelf.new))) }
+        (S.state shelf.old).faults
+        (stream_leaves result.inputs (T.state tap.new) (S.state shelf.new))) }
     ensures rows { result.rows ≡ fed_of result.inputs.reader - opened.stream.start.row }
 {
     let Opened {
@@ -283,12 +285,12 @@ where
     ensures whole { OnOk result (EndsWhole
         (terms call.now.names call.now.every call.now.source)
         (at stream (S.state shelf.old).files inputs.old (T.state tap.old))
-        (leaves inputs.new (T.state tap.new) (S.state shelf.new))) }
+        (stream_leaves inputs.new (T.state tap.new) (S.state shelf.new))) }
     ensures left { IfErr result (IsLeftBy
         (terms call.now.names call.now.every call.now.source)
         (at stream (S.state shelf.old).files inputs.old (T.state tap.old))
         (S.state shelf.old).faults
-        (leaves inputs.new (T.state tap.new) (S.state shelf.new))) }
+        (stream_leaves inputs.new (T.state tap.new) (S.state shelf.new))) }
 {
     parts_go_on();
     let Stopped { stream, end } = run_stream(call, stream, inputs, tap, shelf, watch)?;

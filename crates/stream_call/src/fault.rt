@@ -1,5 +1,5 @@
 ghost use Rattle.std.specs.Prelude.{◌≡◌};
-ghost use Rattle.stream_call.specs.Faults.{save_fault_of, status_of};
+ghost use Rattle.stream_call.specs.Faults.{save_fault_of, stream_status_of};
 ghost use Rattle.stream_call.specs.declared.fault.StreamFault.TheVariants as Whole;
 ghost use Rattle.fries_lines.specs.declared.fault.Fault.TheVariants.{NoMemory as OutOfMemory};
 
@@ -25,7 +25,7 @@ const SAVE_STATUS: u8 = 10;
 impl StreamFault {
     /// The status that the program ends with.
     pub fn status(self) -> u8
-        ensures { result ≡ status_of self }
+        ensures { result ≡ stream_status_of self }
     {
         match self {
             StreamFault::Call(fault) => fault.status(),

@@ -9,8 +9,8 @@ ghost use Rattle.versions.specs.declared.limits.TheConstants.{MAX_STREAM_REQUEST
 ghost use Rattle.versions.specs.declared.request.Request.{Request};
 ghost use Rattle.stream_call.specs.Opened.{AreCutTo, GoesOnFrom, IsCutTo, IsOfFiles, IsOpened};
 ghost use Rattle.stream_call.specs.Opened.{IsStreamSaveOf, resume_at, resume_of};
-ghost use Rattle.stream_call.specs.Unopened.{AreUnmade, HasOnlyAlerts, IsNoStreamSave, IsShort};
-ghost use Rattle.stream_call.specs.Unopened.{IsUncut, IsUnopened, Misfits};
+ghost use Rattle.stream_call.specs.Unopened.{AreUnmade, HasOnlyAlerts, IsNoStreamSave, IsShorter};
+ghost use Rattle.stream_call.specs.Unopened.{StaysUncut, IsUnopened, Misfits};
 
 use crate::fault::StreamFault;
 use crate::opened::{Asked, Opened, Origin, asked_in, make_opened, mode_of, source_of};
@@ -164,8 +164,8 @@ fn cut_file<S: GrowingShelf>(
     ensures as_before { OnErr result ((S.state shelf.new).files ≡ (S.state shelf.old).files) }
     ensures closed { (S.state shelf.new).draft ≡ None }
     ensures faults { OnOk result ((S.state shelf.new).faults ≡ (S.state shelf.old).faults) }
-    ensures cause { IfErr result (IsUncut file name.now
-        (IsShort (S.state shelf.new).files name.now size short)
+    ensures cause { IfErr result (StaysUncut file name.now
+        (IsShorter (S.state shelf.new).files name.now size short)
         (S.state shelf.old).faults (S.state shelf.new).faults) }
 {
     match shelf.cut(name, size) {

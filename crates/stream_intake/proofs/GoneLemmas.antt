@@ -18,7 +18,7 @@ use Rattle.stream_save.specs.declared.fault.StreamSaveFault.{StreamSaveFault}
 use Rattle.stream_save.specs.declared.fault.StreamSaveFault.TheVariants as fault
 use Rattle.stream_step.specs.Resumed.{IsResumed}
 use Rattle.stream_step.specs.declared.stream.Stream.{Stream}
-use Rattle.stream_intake.specs.Intake.{IsMaskOf, accepted_after, judged_in}
+use Rattle.stream_intake.specs.Intake.{IsMaskOfNodes, accepted_after, judged_in}
 use Rattle.stream_intake.proofs.IntakeLemmas.{JudgedLater, SplitsWithin, accepted_both}
 use Rattle.stream_intake.proofs.MaskLemmas.{mask_of_some, one_mask}
 
@@ -53,7 +53,7 @@ HoldsFor job requests splits =
     (slice_get job.nodes node))
 
 module _ (within : SplitsWithin) (job : Job) (mask : ℕ) (known : List Request) (ordered : Bool)
-    (save : StreamSave) (s : Stream) (own : IsMaskOf job.nodes mask)
+    (save : StreamSave) (s : Stream) (own : IsMaskOfNodes job.nodes mask)
     (is : IsResumed (job_view job) (judged_within (Some mask) (job_view job) known).accepted ordered
     save (setup_view s.setup)) where
   holds : HoldsFor (job_view job)
@@ -65,7 +65,7 @@ module _ (within : SplitsWithin) (job : Job) (mask : ℕ) (known : List Request)
       (subst (λ (j : JobView). HoldsFor j is.whole.requests is.whole.splits) is.job_is
       is.exact.splits))
 
-  pub gone_mask : IsMaskOf job.nodes s.setup.splits
+  pub gone_mask : IsMaskOfNodes job.nodes s.setup.splits
   gone_mask =
       mask_of_some job.nodes mask s.setup.splits
       (judged_within (Some mask) (job_view job) known).accepted own
@@ -82,7 +82,7 @@ module _ (within : SplitsWithin) (job : Job) (mask : ℕ) (known : List Request)
 -- ---- what the stream tells, if the requests were judged with the job's mask
 
 module _ (within : SplitsWithin) (job own : Job) (mask : ℕ) (known : List Request) (ordered : Bool)
-    (save : StreamSave) (done : Judged) (holds : IsMaskOf job.nodes mask)
+    (save : StreamSave) (done : Judged) (holds : IsMaskOfNodes job.nodes mask)
     (job_is : own ≡ job) (done_is : done ≡ judged_within (Some mask) (job_view own) known) where
   done_within : done ≡ judged_within (Some mask) (job_view job) known
   done_within = done_is ∙ ap (λ (j : Job). judged_within (Some mask) (job_view j) known) job_is
@@ -103,7 +103,7 @@ module _ (within : SplitsWithin) (job own : Job) (mask : ℕ) (known : List Requ
       known)
 
   pub told_mask : (s : Stream) → IsResumed (job_view own) done.accepted ordered save
-      (setup_view s.setup) → IsMaskOf job.nodes s.setup.splits
+      (setup_view s.setup) → IsMaskOfNodes job.nodes s.setup.splits
   told_mask s r = gone_mask within job mask known ordered save s holds (own_resumed s r)
 
   pub told_resumed : (s : Stream)
@@ -115,7 +115,7 @@ module _ (within : SplitsWithin) (job own : Job) (mask : ℕ) (known : List Requ
       (subst (λ (j : Job). IsResumed (job_view j) done.accepted ordered save (setup_view s.setup))
       job_is r)
 
-  pub told_fault : (splits : ℕ) → IsMaskOf job.nodes splits → done
+  pub told_fault : (splits : ℕ) → IsMaskOfNodes job.nodes splits → done
       ≡ judged_within (Some splits) (job_view job) known
   told_fault splits is =
       done_within ∙ ap (λ k. judged_within (Some k) (job_view job) known)

@@ -9,7 +9,7 @@ use Rattle.flow_dag.specs.Masks.{Has}
 use Rattle.jobs.specs.declared.func.NodeDef.{NodeDef}
 use Rattle.versions.specs.declared.request.Request.{Request}
 use Rattle.flow_model.specs.Planned.{is_made_split, is_split_node, may_become_split, splits_at}
-use Rattle.stream_intake.specs.Intake.{IsMaskOf}
+use Rattle.stream_intake.specs.Intake.{IsMaskOfNodes}
 
 bit_same : (a b : ℕ) → a < 2 → b < 2 → (a ≡ 1 → b ≡ 1) → (b ≡ 1 → a ≡ 1) → a ≡ b
 bit_same a b p q f g = elim (cases_eq a 1) [
@@ -18,7 +18,7 @@ bit_same a b p q f g = elim (cases_eq a 1) [
 ]
 
 -- a job has one such mask
-pub one_mask : (nodes : List NodeDef) (a b : ℕ) → IsMaskOf nodes a → IsMaskOf nodes b → a ≡ b
+pub one_mask : (nodes : List NodeDef) (a b : ℕ) → IsMaskOfNodes nodes a → IsMaskOfNodes nodes b → a ≡ b
 one_mask nodes a b f g =
     same_from_bits a b (λ i. bit_same (bit_at a i) (bit_at b i) (bit_at-lt a i) (bit_at-lt b i)
     (λ h. (g i).1 ((f i).0 h)) (λ h. (f i).1 ((g i).0 h)))
@@ -31,7 +31,7 @@ or_false false e = e
 
 pub mask_of_none : (nodes : List NodeDef) (splits : ℕ)
     → ((node : ℕ) → Has splits node ↔ IsTrue (splits_at nodes [] node || may_become_split
-    (slice_get nodes node))) → IsMaskOf nodes splits
+    (slice_get nodes node))) → IsMaskOfNodes nodes splits
 mask_of_none nodes splits is node = (to, from)
   where
     own : Bool
@@ -53,9 +53,9 @@ mask_of_none nodes splits is node = (to, from)
     ]
 
 pub mask_of_some : (nodes : List NodeDef) (mask splits : ℕ) (requests : List Request)
-    → IsMaskOf nodes mask → ((node : ℕ) → IsTrue (is_made_split requests node) → Has mask node)
+    → IsMaskOfNodes nodes mask → ((node : ℕ) → IsTrue (is_made_split requests node) → Has mask node)
     → ((node : ℕ) → Has splits node ↔ IsTrue (splits_at nodes requests node || may_become_split
-    (slice_get nodes node))) → IsMaskOf nodes splits
+    (slice_get nodes node))) → IsMaskOfNodes nodes splits
 mask_of_some nodes mask splits requests own_mask within is node = (to, from)
   where
     own : Bool

@@ -17,8 +17,8 @@ may_split nodes node =
     is_split_node (slice_get nodes node) || may_become_split (slice_get nodes node)
 
 -- the mask holds exactly these nodes
-abbrev pub IsMaskOf : List NodeDef → ℕ → Type 0
-IsMaskOf nodes splits = (node : ℕ) → Has splits node ↔ IsTrue (may_split nodes node)
+abbrev pub IsMaskOfNodes : List NodeDef → ℕ → Type 0
+IsMaskOfNodes nodes splits = (node : ℕ) → Has splits node ↔ IsTrue (may_split nodes node)
 
 -- how a stream judges these requests: only the nodes of its mask may be splits
 abbrev pub judged_in : Stream → List Request → Judged

@@ -3,7 +3,7 @@ ghost use Rattle.versions.specs.declared.request.Request.{Request};
 ghost use Rattle.flow_model.specs.Begin.{at_first};
 ghost use Rattle.flow_model.specs.Setup.{setup_view};
 ghost use Rattle.stream_step.specs.Pending.{exact_from};
-ghost use Rattle.stream_intake.specs.Intake.{IsKnownTo, IsMaskOf, judged_in};
+ghost use Rattle.stream_intake.specs.Intake.{IsKnownTo, IsMaskOfNodes, judged_in};
 
 use crate::known::Known;
 use crate::taken::{Taken, learn};
@@ -42,7 +42,7 @@ pub fn begin(
     ensures none { IfOk result (λ intake. intake.stream.setup.judged.accepted ≡ []) }
     ensures first { IfOk result (λ intake.
         intake.stream.start ≡ at_first (setup_view intake.stream.setup)) }
-    ensures splits { IfOk result (λ intake. IsMaskOf job.nodes intake.stream.setup.splits) }
+    ensures splits { IfOk result (λ intake. IsMaskOfNodes job.nodes intake.stream.setup.splits) }
     ensures known { IfOk result (λ intake. intake.known.requests ≡ requests) }
     ensures is_known { IfOk result (λ intake. IsKnownTo requests intake.stream) }
     ensures exact { IfOk result (λ intake. intake.stream.exact

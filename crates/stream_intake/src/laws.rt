@@ -4,7 +4,7 @@ ghost use Rattle.jobs.specs.declared.func.NodeDef.{NodeDef};
 ghost use Rattle.versions.specs.declared.request.Request.{Request};
 ghost use Rattle.flow_model.specs.Requests.{afters};
 ghost use Rattle.flow_model.specs.Waiting.{with_afters};
-ghost use Rattle.stream_intake.specs.Intake.{IsKnownTo, IsMaskOf, judged_in};
+ghost use Rattle.stream_intake.specs.Intake.{IsKnownTo, IsMaskOfNodes, judged_in};
 ghost use Rattle.stream_step.specs.declared.stream.Stream.{Stream};
 
 /// A savepoint that has the rows for which a stream's requests wait is enough to find what the
@@ -18,6 +18,6 @@ pub fn saved_streams_go_on()
     ensures pending { (stream : Stream) (known : List Request) → IsKnownTo known stream
         → drop (length stream.setup.judged.accepted) (judged_in stream known).accepted
         ≡ stream.pending }
-    ensures one_mask { (nodes : List NodeDef) (first second : ℕ) → IsMaskOf nodes first
-        → IsMaskOf nodes second → first ≡ second }
+    ensures one_mask { (nodes : List NodeDef) (first second : ℕ) → IsMaskOfNodes nodes first
+        → IsMaskOfNodes nodes second → first ≡ second }
 {}

@@ -1,5 +1,5 @@
 ghost use Rattle.std.specs.Prelude.{◌≡◌, IfOk};
-ghost use Rattle.stream_intake.specs.Intake.{IsMaskOf};
+ghost use Rattle.stream_intake.specs.Intake.{IsMaskOfNodes};
 
 use crate::intake::none;
 use flow_model::Setup;
@@ -18,7 +18,7 @@ impl JobMask {
     /// The job with its mask. The one error is out of memory; it gives up the job.
     pub fn of(alloc: Global, job: Job) -> Result<JobMask, NoMemory>
         ensures job { IfOk result (λ made. made.job ≡ job) }
-        ensures splits { IfOk result (λ made. IsMaskOf job.nodes made.splits) }
+        ensures splits { IfOk result (λ made. IsMaskOfNodes job.nodes made.splits) }
     {
         let Setup { job, splits, .. } = Setup::make_for_stream(alloc, job, none(alloc), false)?;
         Ok(JobMask { job, splits })

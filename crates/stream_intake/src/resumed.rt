@@ -8,7 +8,7 @@ ghost use Rattle.flow_model.specs.Setup.{setup_view};
 ghost use Rattle.stream_save.specs.StreamReading.{CanSaveStream};
 ghost use Rattle.stream_step.specs.Pending.{exact_from};
 ghost use Rattle.stream_step.specs.Resumed.{IsResumed};
-ghost use Rattle.stream_intake.specs.Intake.{IsKnownTo, IsMaskOf, judged_in, refused_after};
+ghost use Rattle.stream_intake.specs.Intake.{IsKnownTo, IsMaskOfNodes, judged_in, refused_after};
 
 use crate::intake::Intake;
 use crate::known::{Known, parted};
@@ -46,7 +46,7 @@ pub fn resume(
     ensures resumed { IfOk result (λ intake. IsResumed (job_view job)
         (judged_in intake.stream (take save.read requests)).accepted mode.ordered save
         (setup_view intake.stream.setup)) }
-    ensures splits { IfOk result (λ intake. IsMaskOf job.nodes intake.stream.setup.splits) }
+    ensures splits { IfOk result (λ intake. IsMaskOfNodes job.nodes intake.stream.setup.splits) }
     ensures start { IfOk result (λ intake. intake.stream.start ≡ save.start) }
     ensures exact { IfOk result (λ intake. intake.stream.exact
         ≡ exact_from mode.exact intake.stream.start.turned) }
@@ -57,7 +57,7 @@ pub fn resume(
     ensures refused { IfOk result (λ intake. intake.refused
         ≡ refused_after intake.stream (take save.read requests) requests) }
     ensures fault { IfErr result (λ fault. fault ≢ StreamSaveFault.NoMemory → (splits : ℕ)
-        → IsMaskOf job.nodes splits → (length (judged_within (Some splits) (job_view job)
+        → IsMaskOfNodes job.nodes splits → (length (judged_within (Some splits) (job_view job)
         (take save.read requests)).accepted < save.start.turned)
         × (fault ≡ StreamSaveFault.Count (length (judged_within (Some splits) (job_view job)
         (take save.read requests)).accepted + 1))) }
@@ -93,7 +93,7 @@ fn restored(
     requires saved { CanSaveStream (job_view job) save }
     ensures resumed { IfOk result (λ stream. IsResumed (job_view job)
         (judged_in stream known.now.requests).accepted mode.ordered save (setup_view stream.setup)) }
-    ensures splits { IfOk result (λ stream. IsMaskOf job.nodes stream.setup.splits) }
+    ensures splits { IfOk result (λ stream. IsMaskOfNodes job.nodes stream.setup.splits) }
     ensures start { IfOk result (λ stream. stream.start ≡ save.start) }
     ensures exact { IfOk result (λ stream. stream.exact
         ≡ exact_from mode.exact stream.start.turned) }
@@ -103,7 +103,7 @@ fn restored(
     ensures enough { IfOk result (λ stream. save.start.turned
         ≤ length (judged_in stream known.now.requests).accepted) }
     ensures fault { IfErr result (λ fault. fault ≢ StreamSaveFault.NoMemory → (splits : ℕ)
-        → IsMaskOf job.nodes splits → (length (judged_within (Some splits) (job_view job)
+        → IsMaskOfNodes job.nodes splits → (length (judged_within (Some splits) (job_view job)
         known.now.requests).accepted < save.start.turned)
         × (fault ≡ StreamSaveFault.Count (length (judged_within (Some splits) (job_view job)
         known.now.requests).accepted + 1))) }

@@ -6,7 +6,7 @@ use Rattle.sink_journal.specs.declared.journal.Feed.TheVariants as feed
 use Rattle.tuple_trace.specs.declared.row.Row.{Row}
 use Rattle.tuple_trace.specs.declared.tuple.Item.TheVariants as item
 use Rattle.flow_model.specs.Begin.{Begin}
-use Rattle.flow_model.specs.Feeding.{fed_put, fed_puts, feed_after, feed_from, issued_where, row_at}
+use Rattle.flow_model.specs.Feeding.{fed_put, fed_puts, feed_after, feed_from, issued_where, row_numbered}
 use Rattle.flow_model.specs.Replay.{Put, items_on}
 use Rattle.flow_model.specs.Requests.{afters}
 use Rattle.flow_model.specs.Run.{IsRunFrom, Ran, put_by}
@@ -49,7 +49,7 @@ get_beyond n place xs ys le e =
     get_dropped (suc n) zero more (x ∷ xs) e = absurd (omega arith)
     get_dropped (suc n) (suc place) more (x ∷ xs) e = get_dropped n place more xs (omega arith)
 
-row_beyond : (n number : ℕ) (xs ys : List Row) → n < number → drop n xs ≡ drop n ys → row_at xs number ≡ row_at ys number
+row_beyond : (n number : ℕ) (xs ys : List Row) → n < number → drop n xs ≡ drop n ys → row_numbered xs number ≡ row_numbered ys number
 row_beyond n zero xs ys lt e = absurd (omega arith)
 row_beyond n (suc place) xs ys lt e = get_beyond n place xs ys (omega arith) e
 
@@ -57,7 +57,7 @@ puts_beyond : (job : JobView) (n issued : ℕ) (xs ys : List Row) (feeds : List 
 puts_beyond job n issued xs ys [] h e = refl
 puts_beyond job n issued xs ys (feed.Fed number ∷ more) h e =
     ap (λ o. fed_put job issued o ++ fed_puts job xs issued more) (row_beyond n number xs ys h.0 e)
-    ∙ ap (λ (l : List Put). fed_put job issued (row_at ys number) ++ l) (puts_beyond job n issued xs ys more h.1 e)
+    ∙ ap (λ (l : List Put). fed_put job issued (row_numbered ys number) ++ l) (puts_beyond job n issued xs ys more h.1 e)
 puts_beyond job n issued xs ys (feed.Issued r ∷ more) h e = puts_beyond job n (issued + 1) xs ys more h e
 puts_beyond job n issued xs ys (feed.Stopped ∷ more) h e = puts_beyond job n issued xs ys more h e
 

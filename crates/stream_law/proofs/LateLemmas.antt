@@ -20,14 +20,14 @@ use Rattle.flow_model.specs.declared.setup.Setup.{Setup}
 use Rattle.flow_model.proofs.EachLemmas.{OfEach, OfEachLane, Worked, of_each-gets, of_each_lane-gets, run-by_parts}
 use Rattle.flow_model.proofs.LawChecks.{finished-by_check}
 use Rattle.savepoint.specs.Parts.{first_of, joined, start_of}
-use Rattle.savepoint.specs.TwoHalves.{row_of, seen, tallied, tally_setup, two_rows, whole}
+use Rattle.savepoint.specs.TwoHalves.{counted_row, has_count, tallied, tally_setup, two_named_rows, whole}
 use Rattle.stream_law.specs.LateRequest.{early_half, early_so_far, late_half, late_part, unlifted}
 use Rattle.stream_law.specs.Stream.{IsNextPart, IsRunSoFar}
 
 none_yet : get {R = slice_cmp nat_cmp} (empty {X = ℤ}) (codes "ann") ≡ None
 none_yet = get-empty (slice_cmp nat_cmp) (codes "ann")
 
-one_yet : get (seen (pos 1)) (codes "ann") ≡ Some (pos 1)
+one_yet : get (has_count (pos 1)) (codes "ann") ≡ Some (pos 1)
 one_yet = get-insert nat_list_cmp_total empty (codes "ann") (pos 1) (codes "ann")
 
 early_worked : OfEach (Worked (first_of tally_setup 0)) (workers_in tallied) (at_first tally_setup).states early_half.journals early_half.states
@@ -37,7 +37,7 @@ early_worked = (
 )
 
 pub early-run : IsRunSoFar early_so_far
-early-run = run-by_parts (row_of 1 ∷ []) early_half refl refl refl early_worked (refl, (rw none_yet refl, tt))
+early-run = run-by_parts (counted_row 1 ∷ []) early_half refl refl refl early_worked (refl, (rw none_yet refl, tt))
 
 abbrev begin : Begin
 begin = start_of 1 early_half
@@ -49,12 +49,12 @@ late_worked = (
 )
 
 abbrev LateConserved : ℕ → Lane → Type 0
-LateConserved n lane = option_map (shown tally_setup n) (slice_get late_half.journals lane.receiver) ≡ put_by begin two_rows late_half lane lane.sender
+LateConserved n lane = option_map (shown tally_setup n) (slice_get late_half.journals lane.receiver) ≡ put_by begin two_named_rows late_half lane lane.sender
 
 late_conserved : OfEachLane LateConserved 0 (lanes tallied)
 late_conserved = (refl, (rw one_yet refl, tt))
 
-late_run : IsRunFrom begin two_rows late_half
+late_run : IsRunFrom begin two_named_rows late_half
 late_run = record {
   feed = refl;
   one_start_each = refl;
@@ -64,9 +64,9 @@ late_run = record {
   conserved = λ n lane journal at there. sym (of_each_lane-gets LateConserved (lanes tallied) late_conserved n lane at) ∙ ap (option_map (shown tally_setup n)) there;
 }
 
-two_numbered : AreRows two_rows
-two_numbered zero row g = let e : row_of 1 ≡ row = cc in subst (IsRow 1) e (record { numbered = refl; unborn = refl; unissued = refl; unmoved = refl })
-two_numbered (suc zero) row g = let e : row_of 2 ≡ row = cc in subst (IsRow 2) e (record { numbered = refl; unborn = refl; unissued = refl; unmoved = refl })
+two_numbered : AreRows two_named_rows
+two_numbered zero row g = let e : counted_row 1 ≡ row = cc in subst (IsRow 1) e (record { numbered = refl; unborn = refl; unissued = refl; unmoved = refl })
+two_numbered (suc zero) row g = let e : counted_row 2 ≡ row = cc in subst (IsRow 2) e (record { numbered = refl; unborn = refl; unissued = refl; unmoved = refl })
 two_numbered (suc (suc i)) row g = absurd (cc)
 
 pub late-next : (setup : Setup) → setup_view setup ≡ tally_setup → IsNextPart early_so_far (late_part setup)
@@ -76,7 +76,7 @@ late-next setup same = record {
   requests_begin = ap (λ (s : SetupView). first_of s 0) same;
   due = All-from_recursion (λ after. min after 2 ≤ 1) [] tt;
   wait = subst (λ (s : SetupView). All (λ after. 1 ≤ after) (afters s.requests)) (sym same) (All-from_recursion (λ after. 1 ≤ after) (1 ∷ []) (lit≤ tt, tt));
-  goes_on = subst (λ (s : SetupView). IsRunSince begin s two_rows late_half) (sym same) (record { setup_is = refl; run = late_run });
+  goes_on = subst (λ (s : SetupView). IsRunSince begin s two_named_rows late_half) (sym same) (record { setup_is = refl; run = late_run });
 }
 
 pub late-joined : joined tally_setup early_half late_half ≡ whole

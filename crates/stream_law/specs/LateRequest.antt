@@ -10,12 +10,12 @@ use Rattle.flow_model.specs.declared.setup.Setup.{Setup}
 use Rattle.savepoint.specs.Parts.{first_of}
 use Rattle.savepoint.specs.TwoHalves.{
   by_ten,
-  named,
-  row_of,
-  seen,
+  named_row,
+  counted_row,
+  has_count,
   tallied_row,
   tally_setup,
-  two_rows,
+  two_named_rows,
 }
 use Rattle.stream_law.specs.Stream.{RunPart, SoFar}
 
@@ -23,28 +23,28 @@ use Rattle.stream_law.specs.Stream.{RunPart, SoFar}
 abbrev pub early_half : Ran
 early_half = ran_as (first_of tally_setup 0)
     (feed.Fed 1 ∷ feed.Stopped ∷ [])
-    ((entry.Met 0 (named 1 (pos 0) 0 []) ∷ entry.Ended 0 ∷ [])
+    ((entry.Met 0 (named_row 1 (pos 0) 0 []) ∷ entry.Ended 0 ∷ [])
     ∷ (entry.Met 1 (tallied_row 1 (pos 1) 0) ∷ entry.Ended 1 ∷ [])
     ∷ [])
-    (seen (pos 1) ∷ empty ∷ [])
+    (has_count (pos 1) ∷ empty ∷ [])
 
 -- the request, and then the second row
 abbrev pub late_half : Ran
 late_half = ran_as tally_setup
     (feed.Issued 1 ∷ feed.Fed 2 ∷ feed.Stopped ∷ [])
-    ((entry.Turned 1 ∷ entry.Met 0 (named 2 (pos 0) 1 []) ∷ entry.Ended 0 ∷ [])
+    ((entry.Turned 1 ∷ entry.Met 0 (named_row 2 (pos 0) 1 []) ∷ entry.Ended 0 ∷ [])
     ∷ (entry.Met 1 (tallied_row 2 (pos 11) 1) ∷ entry.Ended 1 ∷ [])
     ∷ [])
-    (insert (seen (pos 1)) (codes "ann") (pos 11) ∷ empty ∷ [])
+    (insert (has_count (pos 1)) (codes "ann") (pos 11) ∷ empty ∷ [])
 
 -- what was run before the request came
 abbrev pub early_so_far : SoFar
 early_so_far =
-    record { setup = first_of tally_setup 0; rows = row_of 1 ∷ []; ran = early_half }
+    record { setup = first_of tally_setup 0; rows = counted_row 1 ∷ []; ran = early_half }
 
 -- the second part, under this setup
 abbrev pub late_part : Setup → RunPart
-late_part setup = record { setup = setup; rows = two_rows; left = late_half }
+late_part setup = record { setup = setup; rows = two_named_rows; left = late_half }
 
 -- the setup whose request waits for no row
 abbrev pub unlifted : SetupView

@@ -18,7 +18,7 @@ use Rattle.flow_model.specs.declared.setup.Setup.{Setup}
 use Rattle.flow_model.proofs.WorkerListLemmas.{length-workers_from}
 use Rattle.flow_worker.specs.Parts.{WorkedIs}
 use Rattle.flow_crew.specs.Ended.{record_of as ended}
-use Rattle.flow_engine.specs.Flown.{record_of}
+use Rattle.flow_engine.specs.Flown.{flown_record}
 use Rattle.stream_step.specs.Parts.{IsRunOn}
 use Rattle.stream_step.specs.Pending.{lifted}
 use Rattle.stream_step.specs.declared.stream.Stream.{Stream}
@@ -42,7 +42,7 @@ module _ (stream : Stream) (source : ℕ) (setup left : Setup) (rows : List Row)
     (followed : IsFollowed (setup_view stream.setup) (map (lifted stream.start.row) stream.pending)
     (setup_view setup)) (same : left ≡ setup)
     (run : IsRunSince stream.start (setup_view setup) rows (ended (setup_view setup) feeds crew))
-    (is : ran ≡ record_of left feeds crew) where
+    (is : ran ≡ flown_record left feeds crew) where
   abbrev all : List Row
   all = blanks source stream.start.row ++ []
 

@@ -12,10 +12,10 @@ use Rattle.std.specs.List.{list_any}
 use Rattle.std.specs.Prelude.{IfSome, is_some}
 use Rattle.jobs.specs.Job.{job_view}
 use Rattle.versions.specs.declared.request.Request.{Request}
-use Rattle.stream_step.specs.Pending.{due_by, first_wait, is_due, is_held, left_by, lifted}
+use Rattle.stream_step.specs.Pending.{due_by, first_wait, is_due_by, is_held, left_by, lifted}
 use Rattle.stream_step.specs.declared.stream.Stream.{Stream}
 use Rattle.stream_step.proofs.PendingLemmas.{KeepOrder, due_then_left, order_back}
-use Rattle.stream_run.specs.Parts.{Issues, KeepsAsked}
+use Rattle.stream_run.specs.Parts.{IssuesUpTo, KeepsAsked}
 use Rattle.stream_parts.specs.InTime.{IssuesFirst, NoneAsksBefore}
 
 -- the request asks for a row up to this one; for this one or a later one; for a later one
@@ -39,9 +39,9 @@ AreAfter row xs = All (λ (request : Request). row < request.after) xs
 
 due-all : (last : ℕ) (xs : List Request) → AreBy last (due_by last xs)
 due-all last [] = All-nil (IsBy last)
-due-all last (x ∷ xs) = go (is_due last x) refl (due-all last xs)
+due-all last (x ∷ xs) = go (is_due_by last x) refl (due-all last xs)
   where
-    go : (b : Bool) → is_due last x ≡ b → AreBy last (due_by last xs)
+    go : (b : Bool) → is_due_by last x ≡ b → AreBy last (due_by last xs)
         → AreBy last (if b then x ∷ due_by last xs else due_by last xs)
     go true e more =
         let le : x.after ≤ last = grind (arith, nat_tests) in
@@ -50,9 +50,9 @@ due-all last (x ∷ xs) = go (is_due last x) refl (due-all last xs)
 
 left-all : (last : ℕ) (xs : List Request) → AreAfter last (left_by last xs)
 left-all last [] = All-nil (IsAfter last)
-left-all last (x ∷ xs) = go (is_due last x) refl (left-all last xs)
+left-all last (x ∷ xs) = go (is_due_by last x) refl (left-all last xs)
   where
-    go : (b : Bool) → is_due last x ≡ b → AreAfter last (left_by last xs)
+    go : (b : Bool) → is_due_by last x ≡ b → AreAfter last (left_by last xs)
         → AreAfter last (if not b then x ∷ left_by last xs else left_by last xs)
     go true e more = more
     go false e more =
@@ -90,19 +90,19 @@ lifted-late low high (x ∷ xs) le all =
 -- ---- one part
 
 -- no request is pending that asks for a row up to this one
-none-due : (row : ℕ) (xs : List Request) → list_any (is_due row) xs ≡ false → AreAfter row xs
+none-due : (row : ℕ) (xs : List Request) → list_any (is_due_by row) xs ≡ false → AreAfter row xs
 none-due row [] e = All-nil (IsAfter row)
-none-due row (x ∷ xs) e = go (is_due row x) refl e (none-due row xs)
+none-due row (x ∷ xs) e = go (is_due_by row x) refl e (none-due row xs)
   where
-    go : (b : Bool) → is_due row x ≡ b → (b || list_any (is_due row) xs) ≡ false
-        → (list_any (is_due row) xs ≡ false → AreAfter row xs) → AreAfter row (x ∷ xs)
+    go : (b : Bool) → is_due_by row x ≡ b → (b || list_any (is_due_by row) xs) ≡ false
+        → (list_any (is_due_by row) xs ≡ false → AreAfter row xs) → AreAfter row (x ∷ xs)
     go true is f more = absurd (cc f)
     go false is f more =
         let lt : row < x.after = grind (arith, nat_tests) in
         All-cons (IsAfter row) x xs lt (more f)
 
 pub after-undue : (exact : Option ℕ) (row : ℕ) (xs : List Request)
-    → (is_some exact && list_any (is_due row) xs) ≡ false
+    → (is_some exact && list_any (is_due_by row) xs) ≡ false
     → IfSome exact (λ base. AreAfter row xs)
 after-undue None row xs e = tt
 after-undue (Some base) row xs e = none-due row xs e
@@ -114,7 +114,7 @@ some-all (Some base) is = is
 
 wait-within : (fed last : ℕ) (xs : List Request) → first_wait fed last xs ≤ last
 wait-within fed last [] = omega arith
-wait-within fed last (x ∷ xs) = go (is_due fed x) (λ n. wait-within fed n xs)
+wait-within fed last (x ∷ xs) = go (is_due_by fed x) (λ n. wait-within fed n xs)
   where
     go : (b : Bool) → ((n : ℕ) → first_wait fed n xs ≤ n)
         → first_wait fed (if b then last else min last x.after) xs ≤ last
@@ -129,9 +129,9 @@ wait-first : (fed last : ℕ) (xs : List Request) → AreAfter fed xs
     → AreFrom (first_wait fed last xs) xs
 wait-first fed last [] all = All-nil (IsFrom last)
 wait-first fed last (x ∷ xs) all =
-    go (is_due fed x) refl (λ n. wait-first fed n xs (All-tail (IsAfter fed) x xs all))
+    go (is_due_by fed x) refl (λ n. wait-first fed n xs (All-tail (IsAfter fed) x xs all))
   where
-    go : (b : Bool) → is_due fed x ≡ b → ((n : ℕ) → AreFrom (first_wait fed n xs) xs)
+    go : (b : Bool) → is_due_by fed x ≡ b → ((n : ℕ) → AreFrom (first_wait fed n xs) xs)
         → AreFrom (first_wait fed (if b then last else min last x.after) xs) (x ∷ xs)
     go true e more =
         let here : fed < x.after = All-head (IsAfter fed) x xs all in
@@ -159,7 +159,7 @@ issues-none a last = record {
 }
 
 -- what a part issues are the first pending requests
-pub issues-one : KeepOrder → (a b : Stream) (last : ℕ) → a.start.row ≤ last → Issues a last b
+pub issues-one : KeepOrder → (a b : Stream) (last : ℕ) → a.start.row ≤ last → IssuesUpTo a last b
     → IssuesFirst a last b
 issues-one law a b last le is =
     go (is_held a.exact a.start.row last) is.issued is.left
@@ -185,7 +185,7 @@ issues-one law a b last le is =
     }
 
 -- a part that has no row leaves no request that asks for no later row
-pub left-undue : (a b : Stream) (row : ℕ) → row ≡ a.start.row → Issues a row b
+pub left-undue : (a b : Stream) (row : ℕ) → row ≡ a.start.row → IssuesUpTo a row b
     → AreAfter a.start.row b.pending
 left-undue a b row e is =
     subst (λ k. AreAfter k b.pending) e
@@ -202,7 +202,7 @@ left-undue a b row e is =
 
 -- no pending request asks for a row before the last one of a part
 pub left-one : (a b : Stream) (count last most : ℕ) → a.start.row + count ≡ last
-    → Issues a last b → IfSome a.exact (λ base. AreAfter a.start.row a.pending)
+    → IssuesUpTo a last b → IfSome a.exact (λ base. AreAfter a.start.row a.pending)
     → IfSome a.exact (λ base. a.start.row + count ≡ first_wait a.start.row most a.pending)
     → NoneAsksBefore last b
 left-one a b count last most same is after wait = go a.exact is.left after wait

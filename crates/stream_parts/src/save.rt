@@ -1,6 +1,6 @@
 ghost use Rattle.std.specs.Prelude.{◌≡◌, ◌<◌, [], IfErr, IfOk, IfSome, None, OnErr, OnOk, max};
 ghost use Rattle.stream_run.specs.Growing.{Goes, IsBooked};
-ghost use Rattle.stream_run.specs.Standing.{Holds, Stands, saved_text};
+ghost use Rattle.stream_run.specs.Standing.{FileHolds, Stands, saved_text};
 ghost use Rattle.stream_run.specs.Unwritten.{IsUnwritten};
 
 use fries_lines::Fault;
@@ -59,7 +59,7 @@ pub fn save_if_asked<R, L, G, S: GrowingShelf, W: Watch>(
         (S.state shelf.old).files next (S.state shelf.new).files)
         × IsBooked goes.written books.old books.new) }
     ensures saved { IfOk result (λ next. IfSome call.now.every (λ every.
-        Holds (S.state shelf.new).files call.now.names.save (saved_text next
+        FileHolds (S.state shelf.new).files call.now.names.save (saved_text next
         books.new.read books.new.tally.alerts books.new.tally.audit))) }
     ensures stopped { OnErr result ((S.state shelf.new).files ≡ (S.state shelf.old).files) }
     ensures closed { (S.state shelf.new).draft ≡ None }

@@ -1,13 +1,13 @@
 -- Parts that are runs one after another, with one more or with fewer.
 use Rattle.std.proofs.Common.{◌≡◌, ◌++◌, ℕ, zero, suc, List, [], ◌∷◌, ap, refl, take}
 use Rattle.flow_model.specs.Run.{Ran}
-use Rattle.stream_replay.specs.InParts.{ArePartRuns, Given, IsPartRun, PartStart, Records}
+use Rattle.stream_replay.specs.InParts.{ArePartRuns, Given, IsPartReplay, PartStart, Records}
 use Rattle.stream_replay.specs.InParts.{start_after, start_behind}
 
 -- a part more
 pub runs_append : (given : Given) (start : PartStart) (parts : List Records) (lefts : List Ran)
     (records : Records) (left : Ran) → ArePartRuns given start parts lefts
-    → IsPartRun given (start_behind given start parts lefts) records left
+    → IsPartReplay given (start_behind given start parts lefts) records left
     → ArePartRuns given start (parts ++ records ∷ []) (lefts ++ left ∷ [])
 runs_append given start [] [] records left runs is = (is, tt)
 runs_append given start (first ∷ later) (own ∷ more) records left runs is = (
@@ -34,10 +34,10 @@ pub record AreSplit (given : Given) (start : PartStart) (parts : List Records) (
   pub left : Ran
   pub all_are : all ≡ lefts ++ left ∷ []
   pub runs : ArePartRuns given start parts lefts
-  pub is : IsPartRun given (start_behind given start parts lefts) records left
+  pub is : IsPartReplay given (start_behind given start parts lefts) records left
 
 with_first : (given : Given) (start : PartStart) (first : Records) (later : List Records)
-    (records : Records) (own : Ran) (more : List Ran) → IsPartRun given start first own
+    (records : Records) (own : Ran) (more : List Ran) → IsPartReplay given start first own
     → AreSplit given (start_after given start first own) later records more
     → AreSplit given start (first ∷ later) records (own ∷ more)
 with_first given start first later records own more run of = record {

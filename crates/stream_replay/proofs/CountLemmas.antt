@@ -22,7 +22,7 @@ use Rattle.sink_journal.specs.declared.journal.Feed.TheVariants as feed
 use Rattle.flow_model.specs.Feeding.{feed_after, feed_from, issued_after, issued_at_first}
 use Rattle.flow_model.specs.Feeding.{issued_where}
 use Rattle.flow_model.proofs.FreshLemmas.{count_next, count_to}
-use Rattle.audit_parts.specs.Cut.{is_fed, is_issued, is_refused}
+use Rattle.audit_parts.specs.Cut.{is_fed_record, is_issued_record, is_refused_record}
 
 abbrev Fields : Type 0
 Fields = List (List ℕ)
@@ -124,50 +124,50 @@ module _ (p : Fields → Bool)
 
 -- ---- what a part tells of refused requests, rows and issued requests
 
-none_fed : (refused : List Noted) → count_by is_fed (map refused_fields refused) ≡ 0
+none_fed : (refused : List Noted) → count_by is_fed_record (map refused_fields refused) ≡ 0
 none_fed [] = refl
 none_fed (r ∷ refused) =
-    count_no is_fed (refused_fields r) (map refused_fields refused) refl ∙ none_fed refused
+    count_no is_fed_record (refused_fields r) (map refused_fields refused) refl ∙ none_fed refused
 
-none_issued : (refused : List Noted) → count_by is_issued (map refused_fields refused) ≡ 0
+none_issued : (refused : List Noted) → count_by is_issued_record (map refused_fields refused) ≡ 0
 none_issued [] = refl
 none_issued (r ∷ refused) =
-    count_no is_issued (refused_fields r) (map refused_fields refused) refl ∙ none_issued refused
+    count_no is_issued_record (refused_fields r) (map refused_fields refused) refl ∙ none_issued refused
 
 all_refused : (refused : List Noted)
-    → count_by is_refused (map refused_fields refused) ≡ length refused
+    → count_by is_refused_record (map refused_fields refused) ≡ length refused
 all_refused [] = refl
 all_refused (r ∷ refused) =
-    count_yes is_refused (refused_fields r) (map refused_fields refused) refl
+    count_yes is_refused_record (refused_fields r) (map refused_fields refused) refl
     ∙ ap suc (all_refused refused)
 
-none_refused : (feeds : List Feed) → count_by is_refused (map feed_fields feeds) ≡ 0
+none_refused : (feeds : List Feed) → count_by is_refused_record (map feed_fields feeds) ≡ 0
 none_refused [] = refl
 none_refused (feed.Fed row ∷ feeds) =
-    count_no is_refused (feed_fields (feed.Fed row)) (map feed_fields feeds) refl
+    count_no is_refused_record (feed_fields (feed.Fed row)) (map feed_fields feeds) refl
     ∙ none_refused feeds
 none_refused (feed.Issued r ∷ feeds) =
-    count_no is_refused (feed_fields (feed.Issued r)) (map feed_fields feeds) refl
+    count_no is_refused_record (feed_fields (feed.Issued r)) (map feed_fields feeds) refl
     ∙ none_refused feeds
 none_refused (feed.Stopped ∷ feeds) =
-    count_no is_refused (feed_fields feed.Stopped) (map feed_fields feeds) refl
+    count_no is_refused_record (feed_fields feed.Stopped) (map feed_fields feeds) refl
     ∙ none_refused feeds
 
-fed_step : (node : List ℕ) (place : ℕ) (e : Entry) → is_fed (entry_fields node place e) ≡ false
+fed_step : (node : List ℕ) (place : ℕ) (e : Entry) → is_fed_record (entry_fields node place e) ≡ false
 fed_step node place (entry.Met l t) = refl
 fed_step node place (entry.Marked l r) = refl
 fed_step node place (entry.Turned r) = refl
 fed_step node place (entry.Ended l) = refl
 
 issued_step : (node : List ℕ) (place : ℕ) (e : Entry)
-    → is_issued (entry_fields node place e) ≡ false
+    → is_issued_record (entry_fields node place e) ≡ false
 issued_step node place (entry.Met l t) = refl
 issued_step node place (entry.Marked l r) = refl
 issued_step node place (entry.Turned r) = refl
 issued_step node place (entry.Ended l) = refl
 
 refused_step : (node : List ℕ) (place : ℕ) (e : Entry)
-    → is_refused (entry_fields node place e) ≡ false
+    → is_refused_record (entry_fields node place e) ≡ false
 refused_step node place (entry.Met l t) = refl
 refused_step node place (entry.Marked l r) = refl
 refused_step node place (entry.Turned r) = refl
@@ -175,26 +175,26 @@ refused_step node place (entry.Ended l) = refl
 
 module _ (job : JobView) (refused : List Noted) (feeds : List Feed)
     (journals : List (List Entry)) (states : List Counts) where
-  pub fed_records : count_by is_fed (audit_records job refused feeds journals states)
-      ≡ count_by is_fed (map feed_fields feeds)
+  pub fed_records : count_by is_fed_record (audit_records job refused feeds journals states)
+      ≡ count_by is_fed_record (map feed_fields feeds)
   fed_records =
-      count_records is_fed fed_step (λ node place c. refl) job refused feeds journals states
-      ∙ ap (λ n. n + count_by is_fed (map feed_fields feeds)) (none_fed refused)
+      count_records is_fed_record fed_step (λ node place c. refl) job refused feeds journals states
+      ∙ ap (λ n. n + count_by is_fed_record (map feed_fields feeds)) (none_fed refused)
       ∙ omega arith
 
-  pub issued_records : count_by is_issued (audit_records job refused feeds journals states)
-      ≡ count_by is_issued (map feed_fields feeds)
+  pub issued_records : count_by is_issued_record (audit_records job refused feeds journals states)
+      ≡ count_by is_issued_record (map feed_fields feeds)
   issued_records =
-      count_records is_issued issued_step (λ node place c. refl) job refused feeds journals states
-      ∙ ap (λ n. n + count_by is_issued (map feed_fields feeds)) (none_issued refused)
+      count_records is_issued_record issued_step (λ node place c. refl) job refused feeds journals states
+      ∙ ap (λ n. n + count_by is_issued_record (map feed_fields feeds)) (none_issued refused)
       ∙ omega arith
 
-  pub refused_records : count_by is_refused (audit_records job refused feeds journals states)
+  pub refused_records : count_by is_refused_record (audit_records job refused feeds journals states)
       ≡ length refused
   refused_records =
-      count_records is_refused refused_step (λ node place c. refl) job refused feeds journals
+      count_records is_refused_record refused_step (λ node place c. refl) job refused feeds journals
       states
-      ∙ (ap (λ n. count_by is_refused (map refused_fields refused) + n) (none_refused feeds)
+      ∙ (ap (λ n. count_by is_refused_record (map refused_fields refused) + n) (none_refused feeds)
       ∙ (omega arith ∙ all_refused refused))
 
 -- ---- the feed of a part
@@ -207,58 +207,58 @@ feeds_append p xs ys =
     ∙ count_append p (map feed_fields xs) (map feed_fields ys)
 
 fed_where : (test : ℕ → Bool) (rows r : ℕ) (waits : List ℕ)
-    → count_by is_fed (map feed_fields (issued_where test rows r waits)) ≡ 0
+    → count_by is_fed_record (map feed_fields (issued_where test rows r waits)) ≡ 0
 fed_where test rows r [] = refl
 fed_where test rows r (x ∷ waits) = go (test (min x rows)) (fed_where test rows (r + 1) waits)
   where
-    go : (b : Bool) → count_by is_fed (map feed_fields (issued_where test rows (r + 1) waits)) ≡ 0
-        → count_by is_fed (map feed_fields (cond b (feed.Issued r ∷ issued_where test rows (r + 1)
+    go : (b : Bool) → count_by is_fed_record (map feed_fields (issued_where test rows (r + 1) waits)) ≡ 0
+        → count_by is_fed_record (map feed_fields (cond b (feed.Issued r ∷ issued_where test rows (r + 1)
         waits) (issued_where test rows (r + 1) waits))) ≡ 0
     go true h =
-        count_no is_fed (feed_fields (feed.Issued r))
+        count_no is_fed_record (feed_fields (feed.Issued r))
         (map feed_fields (issued_where test rows (r + 1) waits)) refl ∙ h
     go false h = h
 
 fed_after : (waits : List ℕ) (r row rows left : ℕ)
-    → count_by is_fed (map feed_fields (feed_after waits r row rows left)) ≡ left
+    → count_by is_fed_record (map feed_fields (feed_after waits r row rows left)) ≡ left
 fed_after waits r row rows zero = refl
 fed_after waits r row rows (suc left) =
     let issued : List Feed = issued_after (row + 1) rows r waits in
     let later : List Feed = feed_after waits r (row + 1) rows left in
     omega (
       arith,
-      count_yes is_fed (feed_fields (feed.Fed (row + 1))) (map feed_fields (issued ++ later)) refl,
-      feeds_append is_fed issued later,
+      count_yes is_fed_record (feed_fields (feed.Fed (row + 1))) (map feed_fields (issued ++ later)) refl,
+      feeds_append is_fed_record issued later,
       fed_where (λ after. after == row + 1) rows r waits,
       fed_after waits r (row + 1) rows left,
     )
 
 pub fed_from : (row issued : ℕ) (waits : List ℕ) (rows : ℕ)
-    → count_by is_fed (map feed_fields (feed_from row issued waits rows)) ≡ rows - row
+    → count_by is_fed_record (map feed_fields (feed_from row issued waits rows)) ≡ rows - row
 fed_from row issued waits rows =
     omega (
       arith,
-      feeds_append is_fed (issued_at_first row rows (issued + 1) (drop issued waits))
+      feeds_append is_fed_record (issued_at_first row rows (issued + 1) (drop issued waits))
           (feed_after (drop issued waits) (issued + 1) row rows (rows - row)),
       fed_where (λ after. nat_le after row) rows (issued + 1) (drop issued waits),
       fed_after (drop issued waits) (issued + 1) row rows (rows - row),
     )
 
 issued_all : (test : ℕ → Bool) (rows r : ℕ) (waits : List ℕ)
-    → count_by is_issued (map feed_fields (issued_where test rows r waits))
+    → count_by is_issued_record (map feed_fields (issued_where test rows r waits))
     ≡ length (issued_where test rows r waits)
 issued_all test rows r [] = refl
 issued_all test rows r (x ∷ waits) = go (test (min x rows)) (issued_all test rows (r + 1) waits)
   where
     go : (b : Bool)
-        → count_by is_issued (map feed_fields (issued_where test rows (r + 1) waits))
+        → count_by is_issued_record (map feed_fields (issued_where test rows (r + 1) waits))
         ≡ length (issued_where test rows (r + 1) waits)
-        → count_by is_issued (map feed_fields (cond b (feed.Issued r ∷ issued_where test rows
+        → count_by is_issued_record (map feed_fields (cond b (feed.Issued r ∷ issued_where test rows
         (r + 1) waits) (issued_where test rows (r + 1) waits)))
         ≡ length (cond b (feed.Issued r ∷ issued_where test rows (r + 1) waits)
         (issued_where test rows (r + 1) waits))
     go true h =
-        count_yes is_issued (feed_fields (feed.Issued r))
+        count_yes is_issued_record (feed_fields (feed.Issued r))
         (map feed_fields (issued_where test rows (r + 1) waits)) refl ∙ ap suc h
     go false h = h
 
@@ -275,7 +275,7 @@ at_first row rows r (x ∷ waits) = go (nat_le (min x rows) row) (at_first row r
     go false h = h
 
 issued_later : (waits : List ℕ) (r row rows left : ℕ) → count_to row rows waits
-    + count_by is_issued (map feed_fields (feed_after waits r row rows left))
+    + count_by is_issued_record (map feed_fields (feed_after waits r row rows left))
     ≡ count_to (row + left) rows waits
 issued_later waits r row rows zero =
     let e : row + 0 ≡ row = omega arith in
@@ -286,8 +286,8 @@ issued_later waits r row rows (suc left) =
     let e : row + 1 + left ≡ row + suc left = omega arith in
     omega (
       arith,
-      count_no is_issued (feed_fields (feed.Fed (row + 1))) (map feed_fields (here ++ later)) refl,
-      feeds_append is_issued here later,
+      count_no is_issued_record (feed_fields (feed.Fed (row + 1))) (map feed_fields (here ++ later)) refl,
+      feeds_append is_issued_record here later,
       issued_all (λ after. after == row + 1) rows r waits,
       count_next row rows r waits,
       issued_later waits r (row + 1) rows left,
@@ -299,14 +299,14 @@ count_all rows [] = refl
 count_all rows (x ∷ waits) = rw (le-leb (min x rows) rows (omega arith)) (ap suc (count_all rows waits))
 
 pub issued_from : (row issued : ℕ) (waits : List ℕ) (rows : ℕ) → row ≤ rows
-    → count_by is_issued (map feed_fields (feed_from row issued waits rows))
+    → count_by is_issued_record (map feed_fields (feed_from row issued waits rows))
     ≡ length waits - issued
 issued_from row issued waits rows within =
     let left : List ℕ = drop issued waits in
     let e : row + (rows - row) ≡ rows = omega arith in
     omega (
       arith,
-      feeds_append is_issued (issued_at_first row rows (issued + 1) left)
+      feeds_append is_issued_record (issued_at_first row rows (issued + 1) left)
           (feed_after left (issued + 1) row rows (rows - row)),
       issued_all (λ after. nat_le after row) rows (issued + 1) left,
       at_first row rows (issued + 1) left,

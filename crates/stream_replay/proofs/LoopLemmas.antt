@@ -15,7 +15,7 @@ use Rattle.fries_lines.specs.Lines.{noted}
 use Rattle.audit_parts.specs.Cut.{parts_of}
 use Rattle.audit_parts.specs.Texts.{IsReadAs, IsTextOf}
 use Rattle.audit_parts.specs.declared.part.AuditPart.{AuditPart}
-use Rattle.stream_replay.specs.InParts.{AreRunInParts, Given, Records, given_by}
+use Rattle.stream_replay.specs.InParts.{AreRunInParts, Given, Records, given_in_parts}
 use Rattle.stream_replay.specs.Loose.{IsLooseIn}
 use Rattle.stream_replay.specs.declared.fault.PartFault.{PartFault}
 use Rattle.stream_replay.specs.declared.fault.PartFault.TheVariants as part
@@ -121,7 +121,7 @@ given_as s requests plans refused rows = record {
 pub same_given : (whole : Whole) (setup made : Setup) (rows : List Row) → made ≡ setup
     → whole.requests ≡ setup.judged.accepted → whole.plans ≡ setup.plans
     → whole.refused ≡ setup.judged.refused → whole.rows.now ≡ rows
-    → given_of whole (setup_view made) ≡ given_by setup rows
+    → given_of whole (setup_view made) ≡ given_in_parts setup rows
 same_given whole setup made rows same requests plans refused rows_are =
     ap (λ (s : Setup). given_of whole (setup_view s)) same
     ∙ (ap (λ (l : List Request). given_as setup l whole.plans whole.noted.items whole.rows.now)

@@ -10,9 +10,9 @@ use Rattle.sink_journal.specs.declared.audit.Noted.{Noted}
 use Rattle.flow_model.specs.Run.{IsRunSince, Ran}
 use Rattle.flow_model.specs.SetupView.{SetupView}
 use Rattle.savepoint.specs.Parts.{first_of}
-use Rattle.audit_laws.specs.Fits.{Fits, records_of}
+use Rattle.audit_laws.specs.Fits.{Fits, csv_records}
 use Rattle.audit_laws.specs.Part.{uncounted}
-use Rattle.stream_replay.specs.InParts.{Given, IsLastRun, IsPartRun, PartStart, Records}
+use Rattle.stream_replay.specs.InParts.{Given, IsLastReplay, IsPartReplay, PartStart, Records}
 use Rattle.stream_replay.specs.InParts.{refused_told, row_in, turned_in}
 
 -- what the text's records are after the header
@@ -27,9 +27,9 @@ module _ (given : Given) (start : PartStart) (records : Records) (view : SetupVi
     (view_is : view ≡ first_of given.setup (turned_in given start records))
     (fed_is : fed ≡ take (row_in given start records) given.rows)
     (refused_is : refused ≡ refused_told given start records)
-    (read : records_of text ≡ audit_header ∷ records) where
+    (read : csv_records text ≡ audit_header ∷ records) where
   pub part_of : (left : Ran) → IsRunSince start.begin view fed left
-      → Fits refused text (uncounted left) → IsPartRun given start records left
+      → Fits refused text (uncounted left) → IsPartReplay given start records left
   part_of left run fits = record {
     run =
         subst (λ (v : SetupView). IsRunSince start.begin v
@@ -42,14 +42,14 @@ module _ (given : Given) (start : PartStart) (records : Records) (view : SetupVi
         (uncounted left).states) (sym read ∙ fits));
   }
 
-  pub run_of_part : (left : Ran) → IsPartRun given start records left
+  pub run_of_part : (left : Ran) → IsPartReplay given start records left
       → IsRunSince start.begin view fed left
   run_of_part left is =
       subst (λ (v : SetupView). IsRunSince start.begin v fed left) (sym view_is)
       (subst (λ (l : List Row). IsRunSince start.begin
       (first_of given.setup (turned_in given start records)) l left) (sym fed_is) is.run)
 
-  pub fits_of_part : (left : Ran) → IsPartRun given start records left
+  pub fits_of_part : (left : Ran) → IsPartReplay given start records left
       → Fits refused text (uncounted left)
   fits_of_part left is =
       read
@@ -62,9 +62,9 @@ module _ (given : Given) (start : PartStart) (records : Records) (view : SetupVi
 module _ (given : Given) (start : PartStart) (records : Records) (view : SetupView)
     (refused : List Noted) (text : List ℕ) (view_is : view ≡ given.setup)
     (refused_is : refused ≡ drop start.told given.refused)
-    (read : records_of text ≡ audit_header ∷ records) where
+    (read : csv_records text ≡ audit_header ∷ records) where
   pub last_of_run : (left : Ran) → IsRunSince start.begin view given.rows left
-      → Fits refused text left → IsLastRun given start records left
+      → Fits refused text left → IsLastReplay given start records left
   last_of_run left run fits = record {
     run =
         subst (λ (v : SetupView). IsRunSince start.begin v given.rows left) view_is run;
@@ -75,12 +75,12 @@ module _ (given : Given) (start : PartStart) (records : Records) (view : SetupVi
         left.states) (sym read ∙ fits));
   }
 
-  pub run_of_last : (left : Ran) → IsLastRun given start records left
+  pub run_of_last : (left : Ran) → IsLastReplay given start records left
       → IsRunSince start.begin view given.rows left
   run_of_last left is =
       subst (λ (v : SetupView). IsRunSince start.begin v given.rows left) (sym view_is) is.run
 
-  pub fits_of_last : (left : Ran) → IsLastRun given start records left → Fits refused text left
+  pub fits_of_last : (left : Ran) → IsLastReplay given start records left → Fits refused text left
   fits_of_last left is =
       read
       ∙ ap (λ (r : Records). audit_header ∷ r)

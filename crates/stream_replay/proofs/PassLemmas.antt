@@ -7,7 +7,7 @@ use Rattle.audit_fault.specs.declared.fault.AuditFault.{AuditFault}
 use Rattle.audit_fault.specs.declared.fault.AuditFault.TheVariants as audit
 use Rattle.flow_model.specs.Run.{Ran}
 use Rattle.flow_model.specs.Setup.{setup_view}
-use Rattle.stream_replay.specs.InParts.{ArePartRuns, AreRunInParts, Given, IsLastRun, IsPartRun}
+use Rattle.stream_replay.specs.InParts.{ArePartRuns, AreRunInParts, Given, IsLastReplay, IsPartReplay}
 use Rattle.stream_replay.specs.InParts.{PartStart, Records, first_start, start_after}
 use Rattle.stream_replay.specs.InParts.{start_behind}
 use Rattle.stream_replay.specs.Loose.{AreRunUpTo, IsLoose}
@@ -25,9 +25,9 @@ use Rattle.stream_replay.proofs.ChainLemmas.{behind_append, runs_append, runs_sp
 pub record Passes (given : Given) (start : PartStart) (records : Records) (next : PartStart)
     : Type 0 where
   pub left : Ran
-  pub is : IsPartRun given start records left
+  pub is : IsPartReplay given start records left
   pub next_is : next ≡ start_after given start records left
-  pub only : (other : Ran) → IsPartRun given start records other
+  pub only : (other : Ran) → IsPartReplay given start records other
       → next ≡ start_after given start records other
 
 pub passed_more : (whole : Whole) (given : Given) (parts : List Records) (old new : Progress)
@@ -41,7 +41,7 @@ passed_more whole given parts old new records was is same part = record {
   lefts = was.lefts ++ part.left ∷ [];
   runs =
       runs_append given (first_start given) parts was.lefts records part.left was.runs
-      (subst (λ (s : PartStart). IsPartRun given s records part.left)
+      (subst (λ (s : PartStart). IsPartReplay given s records part.left)
       (sym (was.only was.lefts was.runs)) part.is);
   only = λ others runs.
       let of = runs_split given (first_start given) parts records others runs in
@@ -50,16 +50,16 @@ passed_more whole given parts old new records was is same part = record {
       ∙ (behind_append given (first_start given) parts of.lefts records of.left of.runs
       ∙ (ap (λ (s : PartStart). start_after given s records of.left) at
       ∙ sym (part.only of.left
-      (subst (λ (s : PartStart). IsPartRun given s records of.left) at of.is))));
+      (subst (λ (s : PartStart). IsPartReplay given s records of.left) at of.is))));
 }
 
 -- it says so of these, in the words of the call
 pub passes_given : (whole : Whole) (given : Given) (old new : Progress) (records : Records)
     → given_of whole (setup_view old.setup) ≡ given
-    → (left : Ran) × IsPartRun (given_of whole (setup_view old.setup)) (start_in old) records left
+    → (left : Ran) × IsPartReplay (given_of whole (setup_view old.setup)) (start_in old) records left
     × (start_in new
     ≡ start_after (given_of whole (setup_view old.setup)) (start_in old) records left)
-    → ((left : Ran) → IsPartRun (given_of whole (setup_view old.setup)) (start_in old) records left
+    → ((left : Ran) → IsPartReplay (given_of whole (setup_view old.setup)) (start_in old) records left
     → start_in new
     ≡ start_after (given_of whole (setup_view old.setup)) (start_in old) records left)
     → Passes given (start_in old) records (start_in new)
@@ -74,7 +74,7 @@ module _ (whole : Whole) (given : Given) (parts : List Records) (progress : Prog
     (was : HasPassed whole given parts progress) where
   -- nothing is run up to a part that is none from here
   pub none_up_to : (records : Records) (later : List Records) (last : Records)
-      → ((left : Ran) → IsPartRun given (start_in progress) records left → ⊥)
+      → ((left : Ran) → IsPartReplay given (start_in progress) records left → ⊥)
       → AreRunUpTo given (parts ++ records ∷ later) last (length parts + 1) → ⊥
   none_up_to records later last none are =
       let front : take (length parts + 1) (parts ++ records ∷ later) ≡ parts ++ records ∷ [] =
@@ -83,7 +83,7 @@ module _ (whole : Whole) (given : Given) (parts : List Records) (progress : Prog
       (subst (λ (l : List Records). ArePartRuns given (first_start given) l are.lefts) front
       are.runs) in
       none of.left
-      (subst (λ (s : PartStart). IsPartRun given s records of.left) (was.only of.lefts of.runs)
+      (subst (λ (s : PartStart). IsPartReplay given s records of.left) (was.only of.lefts of.runs)
       of.is)
 
   -- the parts before are
@@ -99,7 +99,7 @@ module _ (whole : Whole) (given : Given) (parts : List Records) (progress : Prog
 
   pub loose_part : (records : Records) (later : List Records) (last : Records) (number : ℕ)
       → number ≡ length parts + 1
-      → ((left : Ran) → IsPartRun given (start_in progress) records left → ⊥)
+      → ((left : Ran) → IsPartReplay given (start_in progress) records left → ⊥)
       → IsLoose given (parts ++ records ∷ later) last number
   loose_part records later last number same none = record {
     counted = omega arith;
@@ -110,7 +110,7 @@ module _ (whole : Whole) (given : Given) (parts : List Records) (progress : Prog
   }
 
   pub loose_last : (last : Records) (number : ℕ) → number ≡ length parts + 1
-      → ((left : Ran) → IsLastRun given (start_in progress) last left → ⊥)
+      → ((left : Ran) → IsLastReplay given (start_in progress) last left → ⊥)
       → IsLoose given parts last number
   loose_last last number same none = record {
     counted = omega arith;
@@ -120,18 +120,18 @@ module _ (whole : Whole) (given : Given) (parts : List Records) (progress : Prog
     here = λ are.
         let all = are.ends (omega arith) in
         none all.left
-        (subst (λ (s : PartStart). IsLastRun given s last all.left) (was.only all.lefts all.runs)
+        (subst (λ (s : PartStart). IsLastReplay given s last all.left) (was.only all.lefts all.runs)
         all.ends);
   }
 
-  pub all_in_parts : (last : Records) (left : Ran) → IsLastRun given (start_in progress) last left
+  pub all_in_parts : (last : Records) (left : Ran) → IsLastReplay given (start_in progress) last left
       → AreRunInParts given parts last
   all_in_parts last left is = record {
     lefts = was.lefts;
     left = left;
     runs = was.runs;
     ends =
-        subst (λ (s : PartStart). IsLastRun given s last left) (sym (was.only was.lefts was.runs))
+        subst (λ (s : PartStart). IsLastReplay given s last left) (sym (was.only was.lefts was.runs))
         is;
   }
 
@@ -141,7 +141,7 @@ module _ (whole : Whole) (given : Given) (parts : List Records) (progress : Prog
 pub loose_at : (whole : Whole) (given : Given) (parts : List Records) (progress : Progress)
     (was : HasPassed whole given parts progress) (records : Records) (later : List Records)
     (last : Records) (number : ℕ) → number ≡ length parts + 1 → (code : AuditFault)
-    → ((left : Ran) → IsPartRun given (start_in progress) records left → code ≡ audit.NoMemory)
+    → ((left : Ran) → IsPartReplay given (start_in progress) records left → code ≡ audit.NoMemory)
     → IsLooseFor given (parts ++ records ∷ later) last (fault_of number code)
 loose_at whole given parts progress was records later last number same audit.NoMemory found = tt
 loose_at whole given parts progress was records later last number same (audit.Shape i) found =
@@ -167,7 +167,7 @@ loose_at whole given parts progress was records later last number same (audit.St
 pub loose_end : (whole : Whole) (given : Given) (parts : List Records) (progress : Progress)
     (was : HasPassed whole given parts progress) (last : Records) (number : ℕ)
     → number ≡ length parts + 1 → (code : AuditFault)
-    → ((left : Ran) → IsLastRun given (start_in progress) last left → code ≡ audit.NoMemory)
+    → ((left : Ran) → IsLastReplay given (start_in progress) last left → code ≡ audit.NoMemory)
     → IsLooseFor given parts last (fault_of number code)
 loose_end whole given parts progress was last number same audit.NoMemory found = tt
 loose_end whole given parts progress was last number same (audit.Shape i) found =

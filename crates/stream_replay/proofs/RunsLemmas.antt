@@ -15,10 +15,10 @@ use Rattle.flow_model.specs.Run.{IsRunSince, Ran}
 use Rattle.flow_model.specs.SetupView.{SetupView}
 use Rattle.savepoint.specs.Parts.{first_of}
 use Rattle.audit_laws.specs.Part.{uncounted}
-use Rattle.audit_parts.specs.Cut.{is_fed, is_issued}
-use Rattle.stream_replay.specs.InParts.{ArePartRuns, AreRunInParts, Given, IsLastRun, IsPartRun}
+use Rattle.audit_parts.specs.Cut.{is_fed_record, is_issued_record}
+use Rattle.stream_replay.specs.InParts.{ArePartRuns, AreRunInParts, Given, IsLastReplay, IsPartReplay}
 use Rattle.stream_replay.specs.InParts.{PartStart, Records, due_count, first_start}
-use Rattle.stream_replay.specs.InParts.{row_in, start_after, start_behind, told_in, turned_in}
+use Rattle.stream_replay.specs.InParts.{row_in, start_after, start_behind, told_up_to, turned_in}
 use Rattle.stream_replay.specs.Runs.{PartEnd, RunInTurn, RunsTo, records_in_turn, records_to}
 use Rattle.stream_replay.specs.Runs.{start_past, start_past_all}
 use Rattle.stream_replay.proofs.CountLemmas.{fed_from, fed_records, issued_from, issued_records}
@@ -52,11 +52,11 @@ module _ (given : Given) (start : PartStart) (end : PartEnd) (runs : RunsTo give
   rows_are : length (take end.row given.rows) ≡ end.row
   rows_are = length-take-le end.row given.rows runs.fed
 
-  fed_is : count_by is_fed records ≡ end.row - start.begin.row
+  fed_is : count_by is_fed_record records ≡ end.row - start.begin.row
   fed_is =
       fed_records end.left.setup.job (slice_range given.refused start.told end.told)
       end.left.feeds end.left.journals (uncounted end.left).states
-      ∙ (ap (λ fs. count_by is_fed (map feed_fields fs)) runs.run.run.feed
+      ∙ (ap (λ fs. count_by is_fed_record (map feed_fields fs)) runs.run.run.feed
       ∙ (fed_from start.begin.row start.begin.turned waits (length (take end.row given.rows))
       ∙ ap (λ n. n - start.begin.row) rows_are))
 
@@ -70,11 +70,11 @@ module _ (given : Given) (start : PartStart) (end : PartEnd) (runs : RunsTo give
       ∙ (ap (λ (s : SetupView). length s.requests) runs.run.setup_is
       ∙ length-take-le end.turned given.setup.requests runs.issued)
 
-  issued_is : count_by is_issued records ≡ end.turned - start.begin.turned
+  issued_is : count_by is_issued_record records ≡ end.turned - start.begin.turned
   issued_is =
       issued_records end.left.setup.job (slice_range given.refused start.told end.told)
       end.left.feeds end.left.journals (uncounted end.left).states
-      ∙ (ap (λ fs. count_by is_issued (map feed_fields fs)) runs.run.run.feed
+      ∙ (ap (λ fs. count_by is_issued_record (map feed_fields fs)) runs.run.run.feed
       ∙ (issued_from start.begin.row start.begin.turned waits (length (take end.row given.rows))
       (omega (arith, rows_are, runs.row))
       ∙ ap (λ n. n - start.begin.turned) waits_are))
@@ -111,7 +111,7 @@ module _ (given : Given) (start : PartStart) (end : PartEnd) (runs : RunsTo give
       omega (arith, same, issued_is, due_is, runs.turned)
 
   -- it told these refused requests
-  told_is : told_in given start records ≡ end.told
+  told_is : told_up_to given start records ≡ end.told
   told_is =
       let many : length (slice_range given.refused start.told end.told)
       ≡ end.told - start.told =
@@ -126,7 +126,7 @@ module _ (given : Given) (start : PartStart) (end : PartEnd) (runs : RunsTo give
         runs.refused,
       )
 
-  part_run : IsPartRun given start records end.left
+  part_run : IsPartReplay given start records end.left
   part_run = record {
     run =
         subst (λ k. IsRunSince start.begin (first_of given.setup k)
@@ -141,7 +141,7 @@ module _ (given : Given) (start : PartStart) (end : PartEnd) (runs : RunsTo give
   start_is : start_after given start records end.left ≡ start_past end
   start_is =
       starts (row_in given start records) (turned_in given start records)
-      (told_in given start records) end.left.states end.row end.turned end.told row_is turned_is
+      (told_up_to given start records) end.left.states end.row end.turned end.told row_is turned_is
       told_is
 
 -- ---- all parts
@@ -172,13 +172,13 @@ behind_all given start (end ∷ later) runs =
 
 pub told_in_parts : (given : Given) (ends : List PartEnd) (last : Records) (left : Ran)
     → RunInTurn given (first_start given) ends
-    → IsLastRun given (start_past_all (first_start given) ends) last left
+    → IsLastReplay given (start_past_all (first_start given) ends) last left
     → AreRunInParts given (records_in_turn given (first_start given) ends) last
 told_in_parts given ends last left runs ended = record {
   lefts = lefts_of ends;
   left = left;
   runs = run_in_parts given (first_start given) ends runs;
   ends =
-      subst (λ (s : PartStart). IsLastRun given s last left)
+      subst (λ (s : PartStart). IsLastReplay given s last left)
       (sym (behind_all given (first_start given) ends runs)) ended;
 }

@@ -14,7 +14,7 @@ use Rattle.flow_model.specs.SetupView.{SetupView}
 use Rattle.flow_model.specs.declared.setup.Setup.{Setup}
 use Rattle.savepoint.specs.Parts.{first_of}
 use Rattle.audit_laws.specs.Part.{uncounted}
-use Rattle.audit_parts.specs.Cut.{is_fed, is_issued, is_refused}
+use Rattle.audit_parts.specs.Cut.{is_fed_record, is_issued_record, is_refused_record}
 use Rattle.fries_lines.specs.Lines.{noted}
 
 -- the records of the audit of one part, without a header
@@ -28,8 +28,8 @@ pub record Given : Type 0 where
   pub rows : List Row
 
 -- that of a setup and these rows
-abbrev pub given_by : Setup → List Row → Given
-given_by setup rows = record {
+abbrev pub given_in_parts : Setup → List Row → Given
+given_in_parts setup rows = record {
   setup = setup_view setup;
   refused = map noted setup.judged.refused;
   rows = rows;
@@ -48,7 +48,8 @@ first_start given = record { begin = at_first given.setup; told = 0 }
 
 -- the row up to which it feeds
 abbrev pub row_in : Given → PartStart → Records → ℕ
-row_in given start records = min (start.begin.row + count_by is_fed records) (length given.rows)
+row_in given start records =
+    min (start.begin.row + count_by is_fed_record records) (length given.rows)
 
 -- how many of these requests wait for no later row
 abbrev pub due_count : ℕ → List Request → ℕ
@@ -57,17 +58,18 @@ due_count row requests = count_by (λ (request : Request). nat_le request.after 
 -- the request up to which it issues, which is none that waits for a later row
 abbrev pub turned_in : Given → PartStart → Records → ℕ
 turned_in given start records =
-    start.begin.turned + min (count_by is_issued records)
+    start.begin.turned + min (count_by is_issued_record records)
     (due_count (row_in given start records) (drop start.begin.turned given.setup.requests))
 
 -- how many refused requests are told up to its end
-abbrev pub told_in : Given → PartStart → Records → ℕ
-told_in given start records = min (start.told + count_by is_refused records) (length given.refused)
+abbrev pub told_up_to : Given → PartStart → Records → ℕ
+told_up_to given start records =
+    min (start.told + count_by is_refused_record records) (length given.refused)
 
 -- the refused requests that it tells
 abbrev pub refused_told : Given → PartStart → Records → List Noted
 refused_told given start records =
-    slice_range given.refused start.told (told_in given start records)
+    slice_range given.refused start.told (told_up_to given start records)
 
 -- where the next part begins if this one left this
 abbrev pub start_after : Given → PartStart → Records → Ran → PartStart
@@ -77,14 +79,14 @@ start_after given start records left = record {
     turned = turned_in given start records;
     states = left.states;
   };
-  told = told_in given start records;
+  told = told_up_to given start records;
 }
 
 -- ---- the parts
 
 -- What a part left that isn't the last: a run from where it begins, of which these records are the
 -- audit. It tells no counts.
-pub record IsPartRun (given : Given) (start : PartStart) (records : Records) (left : Ran)
+pub record IsPartReplay (given : Given) (start : PartStart) (records : Records) (left : Ran)
     : Type 0 where
   pub run :
       IsRunSince start.begin (first_of given.setup (turned_in given start records))
@@ -94,7 +96,7 @@ pub record IsPartRun (given : Given) (start : PartStart) (records : Records) (le
       left.journals (uncounted left).states
 
 -- What the last part left: a run of all other rows and requests.
-pub record IsLastRun (given : Given) (start : PartStart) (records : Records) (left : Ran)
+pub record IsLastReplay (given : Given) (start : PartStart) (records : Records) (left : Ran)
     : Type 0 where
   pub run : IsRunSince start.begin given.setup given.rows left
   pub told :
@@ -105,7 +107,7 @@ pub record IsLastRun (given : Given) (start : PartStart) (records : Records) (le
 abbrev pub ArePartRuns : Given → PartStart → List Records → List Ran → Type 0
 ArePartRuns given start [] [] = ⊤
 ArePartRuns given start (records ∷ later) (left ∷ more) =
-    IsPartRun given start records left
+    IsPartReplay given start records left
     × ArePartRuns given (start_after given start records left) later more
 ArePartRuns given start [] (left ∷ more) = ⊥
 ArePartRuns given start (records ∷ later) [] = ⊥
@@ -122,4 +124,4 @@ pub record AreRunInParts (given : Given) (earlier : List Records) (last : Record
   pub lefts : List Ran
   pub left : Ran
   pub runs : ArePartRuns given (first_start given) earlier lefts
-  pub ends : IsLastRun given (start_behind given (first_start given) earlier lefts) last left
+  pub ends : IsLastReplay given (start_behind given (first_start given) earlier lefts) last left

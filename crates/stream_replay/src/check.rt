@@ -3,15 +3,15 @@ ghost use Rattle.std.specs.Prelude.{length};
 ghost use Rattle.jobs.specs.Job.{job_view};
 ghost use Rattle.jobs.specs.Nodes.{AreFromSources};
 ghost use Rattle.flow_model.specs.Setup.{setup_view};
-ghost use Rattle.audit_laws.specs.Fits.{records_of};
+ghost use Rattle.audit_laws.specs.Fits.{csv_records};
 ghost use Rattle.audit_parts.specs.Cut.{parts_of};
-ghost use Rattle.stream_replay.specs.InParts.{AreRunInParts, Given, Records, given_by};
+ghost use Rattle.stream_replay.specs.InParts.{AreRunInParts, Given, Records, given_in_parts};
 ghost use Rattle.stream_replay.specs.Loose.{IsLooseIn};
 ghost use Rattle.stream_replay.specs.declared.fault.PartFault.TheVariants.{NoMemory as OutOfMemory};
 ghost use Rattle.stream_replay.specs.inner.Progress.{HasPassed, IsCounted, IsLooseAmong};
 ghost use Rattle.stream_replay.specs.inner.Progress.{IsLooseFor, IsProgress, body_of, fault_of};
 ghost use Rattle.stream_replay.specs.inner.Progress.{given_of};
-ghost use Rattle.audit_parts.specs.Reading.{left_of};
+ghost use Rattle.audit_parts.specs.Reading.{parts_left};
 
 use crate::fault::PartFault;
 use crate::progress::Progress;
@@ -47,12 +47,13 @@ pub fn check_parts(
     ensures job { IfOk result (λ back. back.job ≡ setup.job) }
     ensures refused { IfOk result (λ back. back.judged.refused ≡ setup.judged.refused) }
     ensures parts { IfOk result (λ back. (earlier : List Records) (last : Records)
-        → parts_of (records_of bytes.now) ≡ Some (earlier ++ last ∷ [])
-        → AreRunInParts (given_by setup rows.now) earlier last) }
-    ensures loose { IfErr result (IsLooseIn (given_by setup rows.now) (records_of bytes.now)) }
+        → parts_of (csv_records bytes.now) ≡ Some (earlier ++ last ∷ [])
+        → AreRunInParts (given_in_parts setup rows.now) earlier last) }
+    ensures loose { IfErr result (IsLooseIn (given_in_parts setup rows.now)
+        (csv_records bytes.now)) }
     ensures found { (earlier : List Records) (last : Records)
-        → parts_of (records_of bytes.now) ≡ Some (earlier ++ last ∷ [])
-        → AreRunInParts (given_by setup rows.now) earlier last
+        → parts_of (csv_records bytes.now) ≡ Some (earlier ++ last ∷ [])
+        → AreRunInParts (given_in_parts setup rows.now) earlier last
         → IfErr result (λ fault. fault ≡ OutOfMemory) }
 {
     let Some(mut parts) = AuditParts::of(alloc, bytes)? else {
@@ -82,10 +83,10 @@ fn pass_all(
     ensures job { IfOk result (λ back. back.job ≡ progress.setup.job) }
     ensures refused { IfOk result (λ back. back.judged.refused ≡ whole.now.refused) }
     ensures parts { IfOk result (λ back. (earlier : List Records) (last : Records)
-        → body_of first ∷ left_of parts.entry ≡ earlier ++ last ∷ []
+        → body_of first ∷ parts_left parts.entry ≡ earlier ++ last ∷ []
         → AreRunInParts (given_of whole.now (setup_view progress.setup)) earlier last) }
     ensures loose { IfErr result (IsLooseAmong (given_of whole.now (setup_view progress.setup))
-        (body_of first ∷ left_of parts.entry)) }
+        (body_of first ∷ parts_left parts.entry)) }
 {
     let mut progress = progress;
     let mut parts = parts;

@@ -2,7 +2,7 @@
 // nothing.
 ghost use Rattle.std.specs.Prelude.{◌≡◌, ℕ, List};
 ghost use Rattle.flow_model.specs.Run.{Ran};
-ghost use Rattle.stream_replay.specs.InParts.{AreRunInParts, Given, IsLastRun, Records};
+ghost use Rattle.stream_replay.specs.InParts.{AreRunInParts, Given, IsLastReplay, Records};
 ghost use Rattle.stream_replay.specs.InParts.{first_start};
 ghost use Rattle.stream_replay.specs.Loose.{IsLoose};
 ghost use Rattle.stream_replay.specs.Runs.{PartEnd, RunInTurn, records_in_turn, start_past_all};
@@ -22,6 +22,6 @@ pub fn parts_have_one_verdict()
 pub fn runs_are_told_in_parts()
     ensures { (given : Given) (ends : List PartEnd) (last : Records) (left : Ran)
         → RunInTurn given (first_start given) ends
-        → IsLastRun given (start_past_all (first_start given) ends) last left
+        → IsLastReplay given (start_past_all (first_start given) ends) last left
         → AreRunInParts given (records_in_turn given (first_start given) ends) last }
 {}

@@ -4,8 +4,9 @@ ghost use Rattle.flow_model.specs.Begin.{at_first};
 ghost use Rattle.flow_model.specs.Run.{Ran};
 ghost use Rattle.flow_model.specs.Setup.{setup_view};
 ghost use Rattle.audit_fault.specs.declared.fault.AuditFault.TheVariants.{NoMemory as OutOfMemory};
-ghost use Rattle.stream_replay.specs.InParts.{IsLastRun, IsPartRun, due_count as due_count_of};
-ghost use Rattle.stream_replay.specs.InParts.{row_in, start_after, told_in, turned_in};
+ghost use Rattle.stream_replay.specs.InParts.{IsLastReplay, IsPartReplay};
+ghost use Rattle.stream_replay.specs.InParts.{due_count as due_count_of};
+ghost use Rattle.stream_replay.specs.InParts.{row_in, start_after, told_up_to, turned_in};
 ghost use Rattle.stream_replay.specs.inner.Progress.{IsCounted, IsOfWhole, IsProgress, body_of};
 ghost use Rattle.stream_replay.specs.inner.Progress.{given_of, start_in};
 
@@ -64,7 +65,7 @@ impl Progress {
             (start_in self.now) (body_of part.now) }
         ensures turned { result.turned ≡ turned_in (given_of whole.now (setup_view self.now.setup))
             (start_in self.now) (body_of part.now) }
-        ensures told { result.told ≡ told_in (given_of whole.now (setup_view self.now.setup))
+        ensures told { result.told ≡ told_up_to (given_of whole.now (setup_view self.now.setup))
             (start_in self.now) (body_of part.now) }
         ensures within { result.row ≤ length whole.now.rows.now }
         ensures there { result.turned ≤ length whole.now.requests }
@@ -99,18 +100,18 @@ impl Progress {
             ≡ given_of whole.now (setup_view self.setup)) }
         ensures job { IfOk result (λ next. next.setup.job ≡ self.setup.job) }
         ensures part { IfOk result (λ next. (left : Ran)
-            × IsPartRun (given_of whole.now (setup_view self.setup)) (start_in self)
+            × IsPartReplay (given_of whole.now (setup_view self.setup)) (start_in self)
             (body_of part.now) left
             × (start_in next ≡ start_after (given_of whole.now (setup_view self.setup))
             (start_in self) (body_of part.now) left)) }
         ensures only { (left : Ran)
-            → IsPartRun (given_of whole.now (setup_view self.setup)) (start_in self)
+            → IsPartReplay (given_of whole.now (setup_view self.setup)) (start_in self)
             (body_of part.now) left
             → IfOk result (λ next. start_in next
             ≡ start_after (given_of whole.now (setup_view self.setup)) (start_in self)
             (body_of part.now) left) }
         ensures found { (left : Ran)
-            → IsPartRun (given_of whole.now (setup_view self.setup)) (start_in self)
+            → IsPartReplay (given_of whole.now (setup_view self.setup)) (start_in self)
             (body_of part.now) left → IfErr result (λ fault. fault ≡ OutOfMemory) }
     {
         let extent = self.extent(whole, part);
@@ -154,10 +155,10 @@ impl Progress {
         ensures job { IfOk result (λ setup. setup.job ≡ self.setup.job) }
         ensures refused { IfOk result (λ setup. setup.judged.refused ≡ whole.now.refused) }
         ensures part { IfOk result (λ setup. (left : Ran)
-            × IsLastRun (given_of whole.now (setup_view self.setup)) (start_in self)
+            × IsLastReplay (given_of whole.now (setup_view self.setup)) (start_in self)
             (body_of part.now) left) }
         ensures found { (left : Ran)
-            → IsLastRun (given_of whole.now (setup_view self.setup)) (start_in self)
+            → IsLastReplay (given_of whole.now (setup_view self.setup)) (start_in self)
             (body_of part.now) left → IfErr result (λ fault. fault ≡ OutOfMemory) }
     {
         let Progress {

@@ -22,9 +22,9 @@ use Rattle.jobs.specs.declared.limits.TheConstants.{TEXT_MAX}
 use Rattle.payments.specs.declared.read.PFault.{PFault}
 use Rattle.payments.specs.declared.read.PFault.TheVariants as fault
 use Rattle.payments.specs.Reading.{before, cells_behind, field_of, fields_from, first_cell}
-use Rattle.payments.specs.Reading.{first_value, header_of, row_by, row_from, row_of, row_with}
-use Rattle.payments.specs.Reading.{rows_behind, rows_from, source_named, value_of, work_max}
-use Rattle.payments.specs.Spelling.{amount_of, number_of}
+use Rattle.payments.specs.Reading.{first_value, header_of, row_by, row_from, record_row, row_with}
+use Rattle.payments.specs.Reading.{rows_behind, rows_from, source_named, cell_value, work_max}
+use Rattle.payments.specs.Spelling.{amount_of, number_in_text}
 use Rattle.payments.proofs.LimitLemmas.{HaveShortTexts-rows_from}
 use Rattle.payments.proofs.RowLemmas.{AreFromSources-rows_from, before-ok, if-ok}
 use Rattle.std.specs.Cmp.Lexicographic.{pointwise}
@@ -45,18 +45,18 @@ if_value true here e f v is = is
 if_value false here e f v is = absurd (cc is)
 
 value_at : (row to place : ℕ) (k : ColumnKind) (cell : List ℕ) (v : Value)
-    → value_of row place k cell ≡ Ok v → value_of to place k cell ≡ Ok v
+    → cell_value row place k cell ≡ Ok v → cell_value to place k cell ≡ Ok v
 value_at row to place kind.Text cell v is =
     if_value (nat_le (length cell) TEXT_MAX) (Ok (value.Text cell)) (fault.TextLong row place)
     (fault.TextLong to place) v is
 value_at row to place kind.Number cell v is =
-    some_value (number_of cell) (fault.Value row place) (fault.Value to place) v is
+    some_value (number_in_text cell) (fault.Value row place) (fault.Value to place) v is
 value_at row to place kind.Cents cell v is =
     some_value (amount_of cell) (fault.Value row place) (fault.Value to place) v is
 
 field_at : (own : Bool) (row to place : ℕ) (k : ColumnKind) (cell : List ℕ) (v : Value)
-    → (if own then Ok (first_value k) else value_of row place k cell) ≡ Ok v
-    → (if own then Ok (first_value k) else value_of to place k cell) ≡ Ok v
+    → (if own then Ok (first_value k) else cell_value row place k cell) ≡ Ok v
+    → (if own then Ok (first_value k) else cell_value to place k cell) ≡ Ok v
 field_at true row to place k cell v is = is
 field_at false row to place k cell v is = value_at row to place k cell v is
 
@@ -127,7 +127,7 @@ in_file job row cells made is =
     let none : 0 * weight job ≡ 0 = omega arith in
     let light : nat_le (0 * weight job) work_max ≡ true = ap (λ n. nat_le n work_max) none in
     let here = stream_row-numbered job row 0 cells made is in
-    let read : row_of job 0 cells ≡ Ok (numbered 0 made) =
+    let read : record_row job 0 cells ≡ Ok (numbered 0 made) =
     ap (λ b. if b then (if nat_eq (length cells) (length (header_of job)) then row_from job 0
     cells else Err (fault.Length 0)) else Err (fault.TooMuch 0)) light ∙ here in
     ap (λ (r : Result Row PFault). before r (Ok [])) read
@@ -231,7 +231,7 @@ sound_rows-file job row [] rows is =
     let none : [] ≡ rows = cc is in ap (λ (r : List Row). these r None) none
 sound_rows-file job row (first ∷ later) rows is =
     let (item, rest, made, behind, whole) =
-    before-ok (row_of job row first) (rows_from job (row + 1) later) rows is in
+    before-ok (record_row job row first) (rows_from job (row + 1) later) rows is in
     let here : stream_row job row first ≡ Ok item =
     if-ok (nat_le (row * weight job) work_max) (stream_row job row first)
     (fault.TooMuch row) item made in

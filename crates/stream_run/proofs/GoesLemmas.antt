@@ -9,7 +9,7 @@ use Rattle.flow_model.specs.declared.setup.Setup.{Setup}
 use Rattle.stream_step.specs.declared.stream.Stream.{Stream}
 use Rattle.stream_run.specs.Growing.{End, Ended, Goes, GoesAndStops, IsBooked, IsOnePart, Names, Save}
 use Rattle.stream_run.specs.Growing.{StopsIn}
-use Rattle.stream_run.specs.Growing.{Written, all_counted, counted, part_in, parts_in, refused_in}
+use Rattle.stream_run.specs.Growing.{Written, all_counted, counts_once_written, part_in, parts_in, refused_in}
 use Rattle.stream_run.specs.Growing.{rows_in, told_in, with_all_written, with_ended, with_written}
 use Rattle.stream_run.specs.Parts.{HaveRun, KeepsAsked, Part}
 use Rattle.stream_run.specs.Standing.{Stands}
@@ -102,7 +102,7 @@ goes-save names a b f g text s t x e = record {
 pub all_counted-append : (tally : Tally) (xs ys : List Written) → all_counted tally (xs ++ ys)
     ≡ all_counted (all_counted tally xs) ys
 all_counted-append tally [] ys = refl
-all_counted-append tally (x ∷ xs) ys = all_counted-append (counted tally x) xs ys
+all_counted-append tally (x ∷ xs) ys = all_counted-append (counts_once_written tally x) xs ys
 
 pub booked-none : (a b : Books) → b ≡ a → IsBooked [] a b
 booked-none a b e = record {
@@ -140,7 +140,7 @@ goes_booked-same names a f r = (goes-same names a a f f refl refl refl refl, boo
 -- a part that was written, and counted
 pub goes_booked-part : (names : Names) (a b : Stream) (f g : Option Files) (ended : Ended)
     (r s : Books) → HaveRun a (ended.part ∷ []) b → g ≡ with_ended names f ended → KeepsAsked a b
-    → s.tally ≡ counted r.tally (End ended) → ended.refused ++ s.refused.items ≡ r.refused.items
+    → s.tally ≡ counts_once_written r.tally (End ended) → ended.refused ++ s.refused.items ≡ r.refused.items
     → (goes : Goes names ended.part.rows a f b g) × IsOnePart goes.written
     × IsBooked goes.written r s
 unfolding goes-part

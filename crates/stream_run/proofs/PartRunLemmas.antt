@@ -20,7 +20,7 @@ use Rattle.flow_model.specs.declared.record.RunRecord.{RunRecord}
 use Rattle.flow_model.specs.declared.setup.Setup.{Setup}
 use Rattle.flow_worker.specs.Parts.{WorkedIs}
 use Rattle.flow_crew.specs.Ended.{record_of as ended}
-use Rattle.flow_engine.specs.Flown.{record_of}
+use Rattle.flow_engine.specs.Flown.{flown_record}
 use Rattle.stream_step.specs.Parts.{IsRunOn}
 use Rattle.stream_step.specs.Pending.{lifted}
 use Rattle.stream_step.specs.declared.stream.Stream.{Stream}
@@ -31,7 +31,7 @@ use Rattle.stream_run.proofs.PartLemmas.{length-blanks}
 pub run_since : (start : Begin) (setup left : Setup) (rows : List Row) (feeds : List Feed)
     (crew : List WorkedIs) (ran : RunRecord) → left ≡ setup
     → IsRunSince start (setup_view setup) rows (ended (setup_view setup) feeds crew) → ran
-    ≡ record_of left feeds crew → IsRunSince start (setup_view setup) rows (record_view ran)
+    ≡ flown_record left feeds crew → IsRunSince start (setup_view setup) rows (record_view ran)
 run_since start setup left rows feeds crew ran same run is =
     subst (λ (r : RunRecord). IsRunSince start (setup_view setup) rows (record_view r)) (sym is)
     (subst (λ (s : Setup). IsRunSince start (setup_view setup) rows

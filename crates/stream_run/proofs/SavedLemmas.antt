@@ -7,7 +7,7 @@ use Rattle.std.specs.Prelude.{nat_eq, unwrap_or}
 use Rattle.std.specs.Str.{bytes_eq}
 use Rattle.payments.specs.Files.{Files, with_bytes}
 use Rattle.payments.proofs.FileLemmas.{get-insert_found, get-insert_passed}
-use Rattle.stream_run.specs.Standing.{Holds}
+use Rattle.stream_run.specs.Standing.{FileHolds}
 
 eq-refl : (n : ℕ) → nat_eq n n ≡ true
 eq-refl n = grind (arith, nat_tests)
@@ -18,7 +18,7 @@ same_name (x ∷ name) =
     and_from (nat_eq x x) (bytes_eq name name) (eq-refl x) (same_name name)
 
 pub held : (old : Option Files) (name text : List ℕ)
-    → Holds (with_bytes old name text) name text
+    → FileHolds (with_bytes old name text) name text
 held None name text = tt
 held (Some m) name text =
     ap (λ (o : Option (List ℕ)). unwrap_or o [])
@@ -27,7 +27,7 @@ held (Some m) name text =
 -- a file that was stored before another holds its text
 pub held_before : (old : Option Files) (name other text more : List ℕ)
     → bytes_eq name other ≡ false
-    → Holds (with_bytes (with_bytes old name text) other more) name text
+    → FileHolds (with_bytes (with_bytes old name text) other more) name text
 held_before None name other text more apart = tt
 held_before (Some m) name other text more apart =
     ap (λ (o : Option (List ℕ)). unwrap_or o [])
@@ -35,6 +35,6 @@ held_before (Some m) name other text more apart =
     ∙ get-insert_found m name text name (same_name name))
 
 pub holds_stored : (old now : Option Files) (name text : List ℕ)
-    → now ≡ with_bytes old name text → Holds now name text
+    → now ≡ with_bytes old name text → FileHolds now name text
 holds_stored old now name text is =
-    subst (λ (files : Option Files). Holds files name text) (sym is) (held old name text)
+    subst (λ (files : Option Files). FileHolds files name text) (sym is) (held old name text)

@@ -21,7 +21,7 @@ use Rattle.stream_step.specs.Pending.{AreAsked, lifted}
 use Rattle.stream_step.specs.declared.stream.Stream.{Stream}
 use Rattle.stream_step.proofs.PendingLemmas.{between_rows}
 use Rattle.stream_run.specs.Growing.{Ended, Goes, GoesAndStops, IsBooked, IsOnePart, Names}
-use Rattle.stream_run.specs.Growing.{uncounted}
+use Rattle.stream_run.specs.Growing.{without_counts}
 use Rattle.stream_run.specs.Parts.{HaveRun, KeepsAsked, Part}
 use Rattle.stream_run.specs.declared.books.Books.{Books}
 use Rattle.stream_run.specs.declared.books.Tally.{Tally}
@@ -93,7 +93,7 @@ module _ (later : Later) (first : First) (stream next : Stream) (source last : �
   -- The part was written, and the books count it.
   pub written : (names : Names) (books booked : Books) (old new : Option Files)
       (alerts audit : List ℕ) → alerts ≡ alerts_text (record_view ran) → audit
-      ≡ audit_text books.refused.items (uncounted (record_view ran))
+      ≡ audit_text books.refused.items (without_counts (record_view ran))
       → new ≡ with_text (with_text old names.alerts alerts) names.audit audit
       → booked.refused.items ≡ [] → booked.tally ≡ counted_so books alerts audit → KeepsAsked stream next
       → (goes : Goes names rows stream old next new) × IsOnePart goes.written
@@ -108,7 +108,7 @@ module _ (later : Later) (first : First) (stream next : Stream) (source last : �
 
   pub stopped : (names : Names) (refused : List Noted) (old new : Option Files)
       (alerts audit : List ℕ) → alerts ≡ alerts_text (record_view ran) → audit
-      ≡ audit_text refused (uncounted (record_view ran))
+      ≡ audit_text refused (without_counts (record_view ran))
       → GrowInTurn old new names.alerts alerts names.audit audit → GoesAndStops names stream old new
   stopped names refused old new alerts audit a b grow =
       stops-within names stream old new (record {

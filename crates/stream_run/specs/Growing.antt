@@ -24,8 +24,8 @@ pub record Names : Type 0 where
   pub save : List ℕ
 
 -- the record without counts
-abbrev pub uncounted : Ran → Ran
-uncounted ran = record ran { states = (at_first ran.setup).states }
+abbrev pub without_counts : Ran → Ran
+without_counts ran = record ran { states = (at_first ran.setup).states }
 
 -- A part that has ended, and the requests that were refused since the end before.
 pub record Ended : Type 0 where
@@ -36,7 +36,7 @@ pub record Ended : Type 0 where
 abbrev pub with_ended : Names → Option Files → Ended → Option Files
 with_ended names files ended =
     with_text (with_text files names.alerts (alerts_text ended.part.left)) names.audit
-    (audit_text ended.refused (uncounted ended.part.left))
+    (audit_text ended.refused (without_counts ended.part.left))
 
 -- What a stream writes in turn.
 pub data Written : Type 0 where
@@ -90,19 +90,19 @@ pub record Goes (names : Names) (rows : List Row) (old : Stream) (before : Optio
 -- ---- the books
 
 -- the counts once one of this is written
-abbrev pub counted : Tally → Written → Tally
-counted tally (End ended) = record {
+abbrev pub counts_once_written : Tally → Written → Tally
+counts_once_written tally (End ended) = record {
   alerts = tally.alerts + length (alerts_text ended.part.left);
-  audit = tally.audit + length (audit_text ended.refused (uncounted ended.part.left));
+  audit = tally.audit + length (audit_text ended.refused (without_counts ended.part.left));
   unsaved = tally.unsaved + length ended.part.rows;
   shown = tally.shown + alert_count ended.part.left.setup.job.nodes ended.part.left.journals;
 }
-counted tally (Save text) = record tally { unsaved = 0 }
+counts_once_written tally (Save text) = record tally { unsaved = 0 }
 
 -- the counts once all of this is written
 abbrev pub all_counted : Tally → List Written → Tally
 all_counted tally [] = tally
-all_counted tally (first ∷ later) = all_counted (counted tally first) later
+all_counted tally (first ∷ later) = all_counted (counts_once_written tally first) later
 
 -- the refused requests that the audits of the written parts tell
 abbrev pub refused_in : List Written → List Noted
@@ -127,7 +127,7 @@ pub record StopsIn (names : Names) (last : Stream) (files after : Option Files) 
   pub next : Stream
   pub have_run : HaveRun last (ended.part ∷ []) next
   pub grow : GrowInTurn files after names.alerts (alerts_text ended.part.left) names.audit
-      (audit_text ended.refused (uncounted ended.part.left))
+      (audit_text ended.refused (without_counts ended.part.left))
 
 -- From the first stream and these files, a stream went on for some parts, and then it stopped:
 -- between two parts, or while a part was written.

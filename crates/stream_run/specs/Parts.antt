@@ -13,7 +13,7 @@ use Rattle.flow_model.specs.SetupView.{SetupView}
 use Rattle.flow_model.specs.declared.setup.Setup.{Setup}
 use Rattle.savepoint.specs.Parts.{start_of}
 use Rattle.stream_law.specs.Stream.{SoFar, with_part}
-use Rattle.stream_step.specs.Parts.{HasRun, due_in, first_part, left_in}
+use Rattle.stream_step.specs.Parts.{HasRun, due_in, first_part, left_by_parts}
 use Rattle.stream_step.specs.Pending.{AreAsked, lifted}
 use Rattle.stream_step.specs.declared.stream.Stream.{Stream}
 
@@ -53,10 +53,10 @@ pub record KeepsAsked (old new : Stream) : Type 0 where
 -- A part up to row `last` issued the requests that ask for a row up to there, each after the last
 -- row that was fed before it, or after the later row that it asks for. In an exact stream, a part
 -- with rows issued none. The others stay pending.
-pub record Issues (old : Stream) (last : ℕ) (new : Stream) : Type 0 where
+pub record IssuesUpTo (old : Stream) (last : ℕ) (new : Stream) : Type 0 where
   pub issued : new.setup.judged.accepted
       ≡ old.setup.judged.accepted ++ map (lifted old.start.row) (due_in old last)
-  pub left : new.pending ≡ left_in old last
+  pub left : new.pending ≡ left_by_parts old last
 
 -- ---- each part by itself
 

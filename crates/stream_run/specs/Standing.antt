@@ -14,14 +14,14 @@ use Rattle.stream_step.specs.declared.stream.Stream.{Stream}
 use Rattle.stream_run.specs.Growing.{Goes, Names}
 
 -- a file, if it is told, holds just this text
-abbrev pub Holds : Option Files → List ℕ → List ℕ → Type 0
-Holds files name text = IfSome (told_bytes files name) (λ bytes. bytes ≡ text)
+abbrev pub FileHolds : Option Files → List ℕ → List ℕ → Type 0
+FileHolds files name text = IfSome (told_bytes files name) (λ bytes. bytes ≡ text)
 
 -- Nothing was run before, and both files hold their headers alone.
 pub record IsNew (names : Names) (begin : Stream) (files : Option Files) : Type 0 where
   pub first : begin.start ≡ at_first (setup_view begin.setup)
-  pub alerts : Holds files names.alerts (record_text (header begin.setup.job.columns))
-  pub audit : Holds files names.audit (record_text audit_header)
+  pub alerts : FileHolds files names.alerts (record_text (header begin.setup.job.columns))
+  pub audit : FileHolds files names.audit (record_text audit_header)
 
 -- where a call began: anew, or behind this row
 abbrev pub Begins : Option ℕ → Names → Stream → Option Files → Type 0

@@ -11,7 +11,7 @@ ghost use Rattle.flow_model.specs.Record.{record_view};
 ghost use Rattle.flow_model.specs.Setup.{setup_view};
 ghost use Rattle.flow_model.specs.Workers.{workers_in};
 ghost use Rattle.savepoint.specs.Parts.{start_of};
-ghost use Rattle.stream_step.specs.Parts.{IsRunOn, due_in, left_in};
+ghost use Rattle.stream_step.specs.Parts.{IsRunOn, due_in, left_by_parts};
 ghost use Rattle.stream_step.specs.Pending.{AreAsked, SplitWithin, lifted};
 
 use flow_engine::{Engine, run_from};
@@ -81,7 +81,7 @@ where
         (blanks source stream.start.row ++ rows.now) part.ran.setup (record_view part.ran)) }
     ensures last { IfOk result (λ part. part.last ≡ stream.start.row + length rows.now) }
     ensures pending { IfOk result (λ part.
-        part.pending ≡ left_in stream part.last) }
+        part.pending ≡ left_by_parts stream part.last) }
     ensures exact { IfOk result (λ part. part.exact ≡ stream.exact) }
     ensures refused { IfOk result (λ part.
         part.ran.setup.judged.refused ≡ stream.setup.judged.refused) }

@@ -2,7 +2,7 @@
 ghost use Rattle.std.specs.Prelude.{◌≡◌, [], IfErr, IfOk, None, OnErr, OnOk};
 ghost use Rattle.flow_model.specs.Requests.{afters};
 ghost use Rattle.stream_run.specs.Growing.{Goes, IsBooked};
-ghost use Rattle.stream_run.specs.Standing.{Holds, Stands, saved_text};
+ghost use Rattle.stream_run.specs.Standing.{FileHolds, Stands, saved_text};
 ghost use Rattle.stream_run.specs.Unwritten.{IsUnwritten};
 
 use crate::books::Books;
@@ -33,7 +33,7 @@ pub fn save_stream<R, L, G, S: GrowingShelf, W: Watch>(
     ensures goes { IfOk result (λ next. (goes : Goes call.now.names [] stream
         (S.state shelf.old).files next (S.state shelf.new).files)
         × IsBooked goes.written books.old books.new) }
-    ensures saved { IfOk result (λ next. Holds (S.state shelf.new).files call.now.names.save
+    ensures saved { IfOk result (λ next. FileHolds (S.state shelf.new).files call.now.names.save
         (saved_text next books.new.read books.new.tally.alerts books.new.tally.audit)) }
     ensures unsaved { OnOk result (books.new.tally.unsaved ≡ 0) }
     ensures stopped { OnErr result ((S.state shelf.new).files ≡ (S.state shelf.old).files) }

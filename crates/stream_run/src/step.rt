@@ -6,8 +6,8 @@ ghost use Rattle.tuple_trace.specs.FeedRows.{AreRowsAfter};
 ghost use Rattle.flow_model.specs.Record.{record_view};
 ghost use Rattle.fries_lines.specs.Lines.{alert_count as alert_count_of};
 ghost use Rattle.stream_run.specs.Files.{alerts_text, audit_text};
-ghost use Rattle.stream_run.specs.Growing.{Goes, GoesAndStops, IsBooked, IsOnePart, uncounted};
-ghost use Rattle.stream_run.specs.Parts.{Issues, KeepsAsked};
+ghost use Rattle.stream_run.specs.Growing.{Goes, GoesAndStops, IsBooked, IsOnePart, without_counts};
+ghost use Rattle.stream_run.specs.Parts.{IssuesUpTo, KeepsAsked};
 ghost use Rattle.stream_run.specs.Standing.{Stands};
 ghost use Rattle.stream_run.specs.Unwritten.{IsUnwritten};
 
@@ -53,7 +53,7 @@ where
     ensures row { IfOk result (λ next.
         next.start.row ≡ stream.start.row + length rows.now) }
     ensures issued { IfOk result (λ next.
-        Issues stream (stream.start.row + length rows.now) next) }
+        IssuesUpTo stream (stream.start.row + length rows.now) next) }
     ensures kept { IfOk result (λ next. KeepsAsked stream next) }
     ensures stopped { OnErr result (GoesAndStops call.now.names stream
         (S.state shelf.old).files (S.state shelf.new).files) }
@@ -86,7 +86,7 @@ fn texts_of(alloc: Global, part: &PartRan, books: &Books, rows: usize) -> Result
     ensures alerts { IfOk result (λ made.
         made.texts.alerts ≡ alerts_text (record_view part.now.ran)) }
     ensures audit { IfOk result (λ made. made.texts.audit
-        ≡ audit_text books.now.refused.items (uncounted (record_view part.now.ran))) }
+        ≡ audit_text books.now.refused.items (without_counts (record_view part.now.ran))) }
     ensures more { IfOk result (λ made. made.tally.alerts
         ≡ books.now.tally.alerts + length made.texts.alerts) }
     ensures longer { IfOk result (λ made. made.tally.audit

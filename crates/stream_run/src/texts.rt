@@ -3,7 +3,7 @@ ghost use Rattle.std.specs.Prelude.{◌≡◌, IfOk, length};
 ghost use Rattle.jobs.specs.Nodes.{worker_count};
 ghost use Rattle.flow_model.specs.Record.{record_view};
 ghost use Rattle.stream_run.specs.Files.{alerts_text, audit_text};
-ghost use Rattle.stream_run.specs.Growing.{uncounted};
+ghost use Rattle.stream_run.specs.Growing.{without_counts};
 
 use flow_model::{RunRecord, Start};
 use sink_journal::{Noted, alerts_part_text, audit_part_text};
@@ -25,7 +25,7 @@ impl PartTexts {
         ensures alerts { IfOk result (λ texts.
             texts.alerts ≡ alerts_text (record_view ran.now)) }
         ensures audit { IfOk result (λ texts.
-            texts.audit ≡ audit_text refused.now (uncounted (record_view ran.now))) }
+            texts.audit ≡ audit_text refused.now (without_counts (record_view ran.now))) }
     {
         let none = Start::first(alloc, &ran.setup)?;
         let job = &ran.setup.job;

@@ -1,4 +1,4 @@
-ghost use Rattle.stream_run.specs.Standing.{Stands, Holds, saved_text};
+ghost use Rattle.stream_run.specs.Standing.{Stands, FileHolds, saved_text};
 
 use crate::names::StreamNames;
 use fries_lines::Fault;
@@ -37,7 +37,7 @@ pub trait Watch {
     fn saved<S: GrowingShelf>(&mut self, shelf: &S, end: &PartEnd<'_>)
         requires stands { Stands end.now.behind end.now.names.now end.now.stream.now
             (S.state shelf.now).files }
-        requires saved { Holds (S.state shelf.now).files end.now.names.now.save
+        requires saved { FileHolds (S.state shelf.now).files end.now.names.now.save
             (saved_text end.now.stream.now end.now.read end.now.alerts end.now.audit) };
 
     /// A later reading of the requests has this fault. It is skipped, and nothing else comes of it.

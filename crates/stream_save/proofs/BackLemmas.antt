@@ -6,9 +6,9 @@ use Rattle.tuple_trace.specs.Digits.{at_most, digits_of}
 use Rattle.jobs.specs.JobView.{JobView}
 use Rattle.flow_model.specs.Begin.{Begin}
 use Rattle.flow_model.specs.Workers.{workers_in}
-use Rattle.savepoint.specs.SaveReading.{Placed, Spelled, begin_with, both, counts_at, head_number, is_text, one_more, one_spelled, placed_from, spelled_from}
+use Rattle.savepoint.specs.SaveReading.{Placed, Spelled, begin_with, both, counts_at, head_number, is_exactly, one_more, one_spelled, placed_from, spelled_from}
 use Rattle.savepoint.specs.declared.fault.SaveFault.{SaveFault}
-use Rattle.stream_save.specs.StreamReading.{AreWaits, CanSaveStream, Head, head_of, head_with, misplaced, save_after, save_by, save_in, save_unless, save_with, saved_at, stream_save_of, wait_of, waits_from}
+use Rattle.stream_save.specs.StreamReading.{AreWaits, CanSaveStream, Head, stream_head_read, head_with, misplaced, save_after, save_by, stream_save_in, save_unless, stream_save_with, saved_at, stream_save_of, wait_read, waits_read}
 use Rattle.stream_save.specs.StreamText.{StreamSave}
 use Rattle.stream_save.specs.declared.fault.StreamSaveFault.{StreamSaveFault}
 use Rattle.stream_save.proofs.CountLemmas.{all_fit, can-save, have_places}
@@ -55,7 +55,7 @@ small_head row turned read alerts audit head is = go (head_number row) (head_num
           audit = below (digits_of audit) e pe;
         })
 
-head_is_small : (cells : List (List ℕ)) (head : Head) → head_of cells ≡ Some head → IsSmallHead head
+head_is_small : (cells : List (List ℕ)) (head : Head) → stream_head_read cells ≡ Some head → IsSmallHead head
 head_is_small [] head is = absurd (cc is)
 head_is_small (a ∷ []) head is = absurd (cc is)
 head_is_small (a ∷ b ∷ []) head is = absurd (cc is)
@@ -63,7 +63,7 @@ head_is_small (a ∷ b ∷ c ∷ []) head is = absurd (cc is)
 head_is_small (a ∷ b ∷ c ∷ d ∷ []) head is = absurd (cc is)
 head_is_small (a ∷ b ∷ c ∷ d ∷ e ∷ []) head is = absurd (cc is)
 head_is_small (a ∷ b ∷ c ∷ d ∷ e ∷ f ∷ []) head is = absurd (cc is)
-head_is_small (a ∷ b ∷ c ∷ d ∷ e ∷ f ∷ g ∷ []) head is = go (is_text (codes "fries") a && is_text (codes "stream") b) is
+head_is_small (a ∷ b ∷ c ∷ d ∷ e ∷ f ∷ g ∷ []) head is = go (is_exactly (codes "fries") a && is_exactly (codes "stream") b) is
   where
     go : (t : Bool) → (if t then head_with (both (head_number c) (head_number d)) (head_number e) (both (head_number f) (head_number g)) else None) ≡ Some head → IsSmallHead head
     go true h = small_head c d e f g head h
@@ -72,13 +72,13 @@ head_is_small (a ∷ b ∷ c ∷ d ∷ e ∷ f ∷ g ∷ h ∷ more) head is = a
 
 -- ---- waits
 
-as_many : (left number : ℕ) (records : List (List (List ℕ))) (waits : List ℕ) → waits_from left number records ≡ Ok waits → left ≡ length waits
+as_many : (left number : ℕ) (records : List (List (List ℕ))) (waits : List ℕ) → waits_read left number records ≡ Ok waits → left ≡ length waits
 as_many zero number records waits is = let none : [] ≡ waits = cc is in ap (length {A = ℕ}) none
 as_many (suc left) number [] waits is = absurd (cc is)
-as_many (suc left) number (first ∷ later) waits is = go (wait_of number first) (waits_from left (number + 1) later) refl is (λ more made. as_many left (number + 1) later more made)
+as_many (suc left) number (first ∷ later) waits is = go (wait_read number first) (waits_read left (number + 1) later) refl is (λ more made. as_many left (number + 1) later more made)
   where
-    go : (o : Option ℕ) (rest : Result (List ℕ) SaveFault) → waits_from left (number + 1) later ≡ rest → one_spelled number o rest ≡ Ok waits
-        → ((more : List ℕ) → waits_from left (number + 1) later ≡ Ok more → left ≡ length more) → suc left ≡ length waits
+    go : (o : Option ℕ) (rest : Result (List ℕ) SaveFault) → waits_read left (number + 1) later ≡ rest → one_spelled number o rest ≡ Ok waits
+        → ((more : List ℕ) → waits_read left (number + 1) later ≡ Ok more → left ≡ length more) → suc left ≡ length waits
     go None rest made e rec = absurd (cc e)
     go (Some wait) (Err f) made e rec = absurd (cc e)
     go (Some wait) (Ok more) made e rec =
@@ -100,7 +100,7 @@ are_waits row number before (wait ∷ later) is = go (nat_le before wait) (nat_l
 module _ (job : JobView) (save : StreamSave) where
   by_placed : (head : Head) (waits : List ℕ) (spelled : List Spelled) (records : List (List (List ℕ))) (made : Result (List Placed) SaveFault) → IsSmallHead head → head.turned ≡ length waits
       → misplaced head.row 1 0 waits ≡ None → spelled_from (head.turned + 1) records ≡ Ok spelled → placed_from job (head.turned + 1) None spelled ≡ made
-      → save_with head waits (begin_with job head.row head.turned made) ≡ Ok save → CanSaveStream job save
+      → stream_save_with head waits (begin_with job head.row head.turned made) ≡ Ok save → CanSaveStream job save
   by_placed head waits spelled records (Err f) small many none are made is = absurd (cc is)
   by_placed head waits spelled records (Ok placed) small many none are made is =
       let begin : Begin = record { row = head.row; turned = head.turned; states = map (counts_at placed) (workers_in job) } in
@@ -118,26 +118,26 @@ module _ (job : JobView) (save : StreamSave) where
 
   by_order : (head : Head) (waits : List ℕ) (spelled : List Spelled) (records : List (List (List ℕ))) (o : Option ℕ) → IsSmallHead head → head.turned ≡ length waits
       → misplaced head.row 1 0 waits ≡ o → spelled_from (head.turned + 1) records ≡ Ok spelled
-      → save_unless o (save_with head waits (begin_with job head.row head.turned (placed_from job (head.turned + 1) None spelled))) ≡ Ok save → CanSaveStream job save
+      → save_unless o (stream_save_with head waits (begin_with job head.row head.turned (placed_from job (head.turned + 1) None spelled))) ≡ Ok save → CanSaveStream job save
   by_order head waits spelled records (Some number) small many order are is = absurd (cc is)
   by_order head waits spelled records None small many order are is =
       by_placed head waits spelled records (placed_from job (head.turned + 1) None spelled) small many order are refl is
 
   by_parts : (head : Head) (later : List (List (List ℕ))) (waits : Result (List ℕ) SaveFault) (spelled : Result (List Spelled) SaveFault) → IsSmallHead head
-      → waits_from head.turned 1 later ≡ waits → spelled_from (head.turned + 1) (drop head.turned later) ≡ spelled → save_by job head waits spelled ≡ Ok save → CanSaveStream job save
+      → waits_read head.turned 1 later ≡ waits → spelled_from (head.turned + 1) (drop head.turned later) ≡ spelled → save_by job head waits spelled ≡ Ok save → CanSaveStream job save
   by_parts head later (Err f) spelled small many are is = absurd (cc is)
   by_parts head later (Ok waits) (Err f) small many are is = absurd (cc is)
   by_parts head later (Ok waits) (Ok spelled) small many are is =
       by_order head waits spelled (drop head.turned later) (misplaced head.row 1 0 waits) small (as_many head.turned 1 later waits many) refl are is
 
-  by_head : (first : List (List ℕ)) (later : List (List (List ℕ))) (o : Option Head) → head_of first ≡ o → save_after job o later ≡ Ok save → CanSaveStream job save
+  by_head : (first : List (List ℕ)) (later : List (List (List ℕ))) (o : Option Head) → stream_head_read first ≡ o → save_after job o later ≡ Ok save → CanSaveStream job save
   by_head first later None at is = absurd (cc is)
   by_head first later (Some head) at is =
-      by_parts head later (waits_from head.turned 1 later) (spelled_from (head.turned + 1) (drop head.turned later)) (head_is_small first head at) refl refl is
+      by_parts head later (waits_read head.turned 1 later) (spelled_from (head.turned + 1) (drop head.turned later)) (head_is_small first head at) refl refl is
 
-  by_records : (all : List (List (List ℕ))) → save_in job all ≡ Ok save → CanSaveStream job save
+  by_records : (all : List (List (List ℕ))) → stream_save_in job all ≡ Ok save → CanSaveStream job save
   by_records [] is = absurd (cc is)
-  by_records (first ∷ later) is = by_head first later (head_of first) refl is
+  by_records (first ∷ later) is = by_head first later (stream_head_read first) refl is
 
   pub stream-can-save : (bytes : List ℕ) → stream_save_of job bytes ≡ Ok save → CanSaveStream job save
   stream-can-save bytes is = by_records (records default_config (strip_bom bytes)) is

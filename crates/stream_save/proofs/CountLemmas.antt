@@ -10,12 +10,12 @@ use Rattle.tuple_trace.specs.Digits.{digits_of}
 use Rattle.jobs.specs.Nodes.{is_count}
 use Rattle.jobs.specs.JobView.{JobView}
 use Rattle.keyed_state.specs.Counts.{Counts}
-use Rattle.payments.specs.Spelling.{after_sign, is_negative, number_of, signed_of, with_sign}
+use Rattle.payments.specs.Spelling.{after_sign, is_negative, number_in_text, signed_of, with_sign}
 use Rattle.flow_model.specs.SetupView.{Worker}
 use Rattle.flow_model.specs.Workers.{nobody, workers_in}
 use Rattle.flow_model.proofs.ElementLemmas.{IsIn, all_of_at, in_filter, in_map, place_of_in}
 use Rattle.flow_model.proofs.WorkerLemmas.{worker_with}
-use Rattle.savepoint.specs.SaveReading.{CanSaveCounts, Placed, Spelled, both, counts_at, is_led_to, is_place, is_text, is_worker_of, one_more, one_placed, one_spelled, placed_by, placed_from, placed_of, spelled_by, spelled_from, spelled_of, stands_behind}
+use Rattle.savepoint.specs.SaveReading.{CanSaveCounts, Placed, Spelled, both, counts_at, is_led_to, is_place, is_exactly, is_worker_of, one_more, one_placed, one_spelled, placed_by, placed_from, placed_of, spelled_by, spelled_from, spelled_of, stands_behind}
 use Rattle.savepoint.specs.SaveText.{name_of}
 use Rattle.savepoint.specs.declared.fault.SaveFault.{SaveFault}
 use Rattle.savepoint.specs.declared.fault.SaveFault.TheVariants as fault
@@ -56,9 +56,9 @@ spelled_fits [] s is = absurd (cc is)
 spelled_fits (a ∷ []) s is = absurd (cc is)
 spelled_fits (a ∷ b ∷ []) s is = absurd (cc is)
 spelled_fits (a ∷ b ∷ c ∷ []) s is = absurd (cc is)
-spelled_fits (name ∷ place ∷ key ∷ count ∷ []) s is = go (number_of place) (number_of count) refl is
+spelled_fits (name ∷ place ∷ key ∷ count ∷ []) s is = go (number_in_text place) (number_in_text count) refl is
   where
-    go : (p n : Option ℤ) → number_of count ≡ n → spelled_by name key (both p n) ≡ Some s → FitsSigned w64 s.count
+    go : (p n : Option ℤ) → number_in_text count ≡ n → spelled_by name key (both p n) ≡ Some s → FitsSigned w64 s.count
     go None n made e = absurd (cc e)
     go (Some p) None made e = absurd (cc e)
     go (Some p) (Some n) made e =
@@ -105,8 +105,8 @@ has_place job s p fits is = go (nat_le (length s.key) 48) refl is
         let same : placed_by s w ≡ p = cc e in
         let here = position-Some (is_worker_of job s) (workers_in job) w nobody at in
         let who : Worker = get_or (workers_in job) w nobody in
-        let parts = and_parts (is_count who.func) (is_text (name_of (slice_get job.nodes who.node)) s.name && (is_place s.place who.place && is_led_to job s.key who)) here.1 in
-        let more = and_parts (is_text (name_of (slice_get job.nodes who.node)) s.name) (is_place s.place who.place && is_led_to job s.key who) parts.1 in
+        let parts = and_parts (is_count who.func) (is_exactly (name_of (slice_get job.nodes who.node)) s.name && (is_place s.place who.place && is_led_to job s.key who)) here.1 in
+        let more = and_parts (is_exactly (name_of (slice_get job.nodes who.node)) s.name) (is_place s.place who.place && is_led_to job s.key who) parts.1 in
         let led = and_parts (is_place s.place who.place) (is_led_to job s.key who) more.1 in
         subst (HasPlace job) same (record {
           short = le;

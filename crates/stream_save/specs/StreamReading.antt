@@ -6,7 +6,7 @@ use Rattle.csv.specs.Reading.{default_config, records, strip_bom}
 use Rattle.jobs.specs.JobView.{JobView}
 use Rattle.flow_model.specs.Begin.{Begin}
 use Rattle.savepoint.specs.SaveReading.{CanSaveCounts, Spelled, begin_with, both, head_number}
-use Rattle.savepoint.specs.SaveReading.{is_text, one_spelled, placed_from, spelled_from}
+use Rattle.savepoint.specs.SaveReading.{is_exactly, one_spelled, placed_from, spelled_from}
 use Rattle.savepoint.specs.declared.fault.SaveFault.{SaveFault}
 use Rattle.savepoint.specs.declared.fault.SaveFault.TheVariants as part
 use Rattle.stream_save.specs.StreamText.{StreamSave}
@@ -33,35 +33,35 @@ head_with (Some (row, turned)) (Some read) (Some (alerts, audit)) =
     (record { row = row; turned = turned; read = read; alerts = alerts; audit = audit })
 
 -- the numbers of a first record, if it is of its form
-abbrev pub head_of : List (List ℕ) → Option Head
-head_of (fries ∷ stream ∷ row ∷ turned ∷ read ∷ alerts ∷ audit ∷ []) =
-    if is_text (codes "fries") fries && is_text (codes "stream") stream
+abbrev pub stream_head_read : List (List ℕ) → Option Head
+stream_head_read (fries ∷ stream ∷ row ∷ turned ∷ read ∷ alerts ∷ audit ∷ []) =
+    if is_exactly (codes "fries") fries && is_exactly (codes "stream") stream
     then head_with (both (head_number row) (head_number turned)) (head_number read)
     (both (head_number alerts) (head_number audit))
     else None
-head_of _ = None
+stream_head_read _ = None
 
 -- ---- waits
 
 -- the row, if the number before it is this one
-abbrev pub row_at : ℕ → Option (ℕ × ℕ) → Option ℕ
-row_at number None = None
-row_at number (Some (found, row)) = if found == number then Some row else None
+abbrev pub row_after_number : ℕ → Option (ℕ × ℕ) → Option ℕ
+row_after_number number None = None
+row_after_number number (Some (found, row)) = if found == number then Some row else None
 
 -- the row of the wait of the request with this number, if the record is of its form
-abbrev pub wait_of : ℕ → List (List ℕ) → Option ℕ
-wait_of number (wait ∷ found ∷ row ∷ []) =
-    if is_text (codes "wait") wait
-    then row_at number (both (head_number found) (head_number row)) else None
-wait_of number _ = None
+abbrev pub wait_read : ℕ → List (List ℕ) → Option ℕ
+wait_read number (wait ∷ found ∷ row ∷ []) =
+    if is_exactly (codes "wait") wait
+    then row_after_number number (both (head_number found) (head_number row)) else None
+wait_read number _ = None
 
 -- the waits of so many requests, the first of which has this number, as has its record; or the
 -- first record that isn't of the form
-abbrev pub waits_from : ℕ → ℕ → List (List (List ℕ)) → Result (List ℕ) SaveFault
-waits_from zero number records = Ok []
-waits_from (suc left) number [] = Err (part.Shape number)
-waits_from (suc left) number (first ∷ later) =
-    one_spelled number (wait_of number first) (waits_from left (number + 1) later)
+abbrev pub waits_read : ℕ → ℕ → List (List (List ℕ)) → Result (List ℕ) SaveFault
+waits_read zero number records = Ok []
+waits_read (suc left) number [] = Err (part.Shape number)
+waits_read (suc left) number (first ∷ later) =
+    one_spelled number (wait_read number first) (waits_read left (number + 1) later)
 
 -- the number of the first wait that is before the one before it, or above this row
 abbrev pub misplaced : ℕ → ℕ → ℕ → List ℕ → Option ℕ
@@ -74,12 +74,12 @@ misplaced row number before (wait ∷ later) =
 
 -- the fault of waits or of counts as one of the savepoint; no other is told of them than a shape or
 -- a state
-abbrev pub fault_of : SaveFault → StreamSaveFault
-fault_of (part.Shape number) = fault.Shape number
-fault_of (part.Past row) = fault.Past row
-fault_of (part.Count requests) = fault.Count requests
-fault_of (part.State number) = fault.State number
-fault_of part.NoMemory = fault.NoMemory
+abbrev pub fault_as_saved : SaveFault → StreamSaveFault
+fault_as_saved (part.Shape number) = fault.Shape number
+fault_as_saved (part.Past row) = fault.Past row
+fault_as_saved (part.Count requests) = fault.Count requests
+fault_as_saved (part.State number) = fault.State number
+fault_as_saved part.NoMemory = fault.NoMemory
 
 -- the savepoint with this head and these waits, which goes on from this beginning
 abbrev pub saved_at : Head → List ℕ → Begin → StreamSave
@@ -93,9 +93,10 @@ saved_at head waits start =
     }
 
 -- the savepoint that goes on from this beginning, or its fault
-abbrev pub save_with : Head → List ℕ → Result Begin SaveFault → Result StreamSave StreamSaveFault
-save_with head waits (Err fault) = Err (fault_of fault)
-save_with head waits (Ok start) = Ok (saved_at head waits start)
+abbrev pub stream_save_with : Head → List ℕ → Result Begin SaveFault
+    → Result StreamSave StreamSaveFault
+stream_save_with head waits (Err fault) = Err (fault_as_saved fault)
+stream_save_with head waits (Ok start) = Ok (saved_at head waits start)
 
 -- the savepoint, unless a wait is misplaced
 abbrev pub save_unless :
@@ -108,15 +109,15 @@ abbrev pub save_at :
     JobView → Head → List ℕ → List Spelled → Result StreamSave StreamSaveFault
 save_at job head waits spelled =
     save_unless (misplaced head.row 1 0 waits)
-    (save_with head waits (begin_with job head.row head.turned
+    (stream_save_with head waits (begin_with job head.row head.turned
     (placed_from job (head.turned + 1) None spelled)))
 
 -- the savepoint by its waits and what the later records spell, or the first fault of their form
 abbrev pub save_by :
     JobView → Head → Result (List ℕ) SaveFault → Result (List Spelled) SaveFault →
     Result StreamSave StreamSaveFault
-save_by job head (Err fault) spelled = Err (fault_of fault)
-save_by job head (Ok waits) (Err fault) = Err (fault_of fault)
+save_by job head (Err fault) spelled = Err (fault_as_saved fault)
+save_by job head (Ok waits) (Err fault) = Err (fault_as_saved fault)
 save_by job head (Ok waits) (Ok spelled) = save_at job head waits spelled
 
 -- the savepoint by its first record, and the later records
@@ -124,18 +125,18 @@ abbrev pub save_after :
     JobView → Option Head → List (List (List ℕ)) → Result StreamSave StreamSaveFault
 save_after job None later = Err (fault.Shape 0)
 save_after job (Some head) later =
-    save_by job head (waits_from head.turned 1 later)
+    save_by job head (waits_read head.turned 1 later)
     (spelled_from (head.turned + 1) (drop head.turned later))
 
 -- the savepoint that these records tell; their form is judged first, then the waits, and then the
 -- counts
-abbrev pub save_in : JobView → List (List (List ℕ)) → Result StreamSave StreamSaveFault
-save_in job [] = Err (fault.Shape 0)
-save_in job (head ∷ later) = save_after job (head_of head) later
+abbrev pub stream_save_in : JobView → List (List (List ℕ)) → Result StreamSave StreamSaveFault
+stream_save_in job [] = Err (fault.Shape 0)
+stream_save_in job (head ∷ later) = save_after job (stream_head_read head) later
 
 -- the savepoint of a stream that a text tells, or the text's first fault
 abbrev pub stream_save_of : JobView → List ℕ → Result StreamSave StreamSaveFault
-stream_save_of job bytes = save_in job (records default_config (strip_bom bytes))
+stream_save_of job bytes = stream_save_in job (records default_config (strip_bom bytes))
 
 -- the waits come in order: none is before the one before it, or above this row
 abbrev pub AreWaits : ℕ → ℕ → List ℕ → Type 0

@@ -1,6 +1,6 @@
 ghost use Rattle.std.specs.Prelude.{◌≡◌, Some};
 ghost use Rattle.stream_save.specs.FaultWords.{stream_save_words};
-ghost use Rattle.stream_save.specs.StreamReading.{fault_of};
+ghost use Rattle.stream_save.specs.StreamReading.{fault_as_saved};
 ghost use Rattle.stream_save.specs.declared.fault.StreamSaveFault.TheVariants.{
   NoMemory as OutOfMemory,
 };
@@ -40,7 +40,7 @@ impl From<NoMemory> for StreamSaveFault {
 }
 
 impl From<SaveFault> for StreamSaveFault {
-    ghost from_gives = { λ fault e. e ≡ fault_of fault };
+    ghost from_gives = { λ fault e. e ≡ fault_as_saved fault };
 
     fn from(fault: SaveFault) -> Self {
         match fault {

@@ -1,8 +1,8 @@
 // The first record of a stream's savepoint.
 ghost use Rattle.std.specs.Prelude.{◌≡◌, ◌<◌, ◌^◌, IfSome};
 ghost use Rattle.csv.specs.Records.{fields_of};
-ghost use Rattle.stream_save.specs.Steps.{head_numbers, is_head as is_head_of};
-ghost use Rattle.stream_save.specs.StreamReading.{head_of as head_of_record};
+ghost use Rattle.stream_save.specs.Steps.{head_numbers, is_first_record as is_head_of};
+ghost use Rattle.stream_save.specs.StreamReading.{stream_head_read as head_of_record};
 
 use csv::ByteRecord;
 use savepoint_file::{cell, head_number};

@@ -1,7 +1,7 @@
 ghost use Rattle.std.specs.Prelude.{◌≡◌, ◌≢◌, ◌<◌, ◌^◌, Ok, Err, Some, IfErr, IfOk, List, map};
 ghost use Rattle.flow_model.specs.Setup.{setup_view};
 ghost use Rattle.savepoint.specs.SaveReading.{Spelled, placed_of};
-ghost use Rattle.stream_save.specs.StreamReading.{save_after, save_at, save_in, saved_at};
+ghost use Rattle.stream_save.specs.StreamReading.{save_after, save_at, stream_save_in, saved_at};
 ghost use Rattle.stream_save.specs.StreamReading.{stream_save_of};
 
 use crate::head::{Head, head_of};
@@ -44,9 +44,9 @@ fn read_records(
     cells: &mut ByteRecord,
 ) -> Result<StreamSave, StreamSaveFault>
     ensures ok { IfOk result (λ save.
-        save_in (setup_view setup.now).job records.old ≡ Ok save) }
+        stream_save_in (setup_view setup.now).job records.old ≡ Ok save) }
     ensures fault { IfErr result (λ fault. fault ≢ StreamSaveFault.NoMemory →
-        save_in (setup_view setup.now).job records.old ≡ Err fault) }
+        stream_save_in (setup_view setup.now).job records.old ≡ Err fault) }
 {
     if !records.next(cells)? {
         return Err(StreamSaveFault::Shape(0));

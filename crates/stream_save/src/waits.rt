@@ -3,7 +3,7 @@ ghost use Rattle.std.specs.Prelude.{◌≡◌, ◌≢◌, ◌<◌, ◌^◌, Ok, 
 ghost use Rattle.csv.specs.Records.{fields_of};
 ghost use Rattle.stream_save.specs.Steps.{wait_numbers};
 ghost use Rattle.stream_save.specs.StreamReading.{misplaced as misplaced_of};
-ghost use Rattle.stream_save.specs.StreamReading.{wait_of as wait_of_record, waits_from};
+ghost use Rattle.stream_save.specs.StreamReading.{wait_read as wait_of_record, waits_read};
 
 use csv::ByteRecord;
 use payments::TextRecords;
@@ -26,10 +26,10 @@ pub(crate) fn read_waits(
     cells: &mut ByteRecord,
 ) -> Result<Items<u64>, SaveFault>
     requires { turned < 2 ^ 63 }
-    ensures ok { IfOk result (λ waits. waits_from turned 1 records.old ≡ Ok waits) }
+    ensures ok { IfOk result (λ waits. waits_read turned 1 records.old ≡ Ok waits) }
     ensures rest { IfOk result (λ waits. records.new ≡ drop turned records.old) }
     ensures fault { IfErr result (λ fault. fault ≢ SaveFault.NoMemory →
-        waits_from turned 1 records.old ≡ Err fault) }
+        waits_read turned 1 records.old ≡ Err fault) }
 {
     let mut waits = Items::new(alloc);
     for done in 0..turned {

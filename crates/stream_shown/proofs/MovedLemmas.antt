@@ -19,8 +19,8 @@ use Rattle.flow_model.specs.Feeding.{feed_from}
 use Rattle.flow_model.specs.Lanes.{lanes_in, lanes_out, marked_lanes}
 use Rattle.flow_model.specs.Law.{Duties, IsFinished}
 use Rattle.flow_model.specs.Replay.{Put, StateView, after, after_all, came_in, items_on, marker_by}
-use Rattle.flow_model.specs.Replay.{put_on_each, puts, sent, shown, with_change}
-use Rattle.flow_model.specs.Requests.{afters, change_in, change_of, func_after, func_with}
+use Rattle.flow_model.specs.Replay.{put_on_each, puts, items_sent, shown, after_change}
+use Rattle.flow_model.specs.Requests.{afters, change_asked, change_by, func_after, func_with}
 use Rattle.flow_model.specs.Run.{IsRunFrom, IsRunSince, IsWorked, final_counts, put_by, ran_as}
 use Rattle.flow_model.specs.Run.{sent_by}
 use Rattle.flow_model.specs.SetupView.{SetupView, Worker}
@@ -29,8 +29,8 @@ use Rattle.flow_model.specs.Workers.{workers_in}
 use Rattle.flow_model.specs.declared.topology.Lane.{Lane}
 
 change_waiting : (waits : List ℕ) (requests : List Request) (place node : ℕ)
-    → change_in (slice_get (with_afters waits requests) place) node
-    ≡ change_in (slice_get requests place) node
+    → change_asked (slice_get (with_afters waits requests) place) node
+    ≡ change_asked (slice_get requests place) node
 change_waiting [] requests place node = refl
 change_waiting (w ∷ ws) [] place node = refl
 change_waiting (w ∷ ws) (q ∷ qs) zero node = refl
@@ -44,7 +44,7 @@ module _ (setup : SetupView) (waits : List ℕ) where
   plan_same zero = refl
   plan_same (suc r) = refl
 
-  change_same : (r node : ℕ) → change_of moved r node ≡ change_of setup r node
+  change_same : (r node : ℕ) → change_by moved r node ≡ change_by setup r node
   change_same zero node = refl
   change_same (suc r) node = change_waiting waits setup.requests r node
 
@@ -53,7 +53,7 @@ module _ (setup : SetupView) (waits : List ℕ) where
   after_same who view (entry.Met l t) = refl
   after_same who view (entry.Marked l r) = refl
   after_same who view (entry.Turned r) =
-      ap (λ (o : Option Change). record (with_change o view) { last = r })
+      ap (λ (o : Option Change). record (after_change o view) { last = r })
       (change_same r who.node)
   after_same who view (entry.Ended l) = refl
 
@@ -75,13 +75,13 @@ module _ (setup : SetupView) (waits : List ℕ) where
   puts_same who view (entry.Ended l) = refl
 
   sent_same : (who : Worker) (view : StateView) (lane : Lane) (journal : List Entry)
-      → sent moved who view lane journal ≡ sent setup who view lane journal
+      → items_sent moved who view lane journal ≡ items_sent setup who view lane journal
   sent_same who view lane [] = refl
   sent_same who view lane (e ∷ more) =
-      ap (λ (ps : List Put). items_on lane ps ++ sent moved who (after moved who view e) lane more)
+      ap (λ (ps : List Put). items_on lane ps ++ items_sent moved who (after moved who view e) lane more)
       (puts_same who view e)
       ∙ (ap (λ (v : StateView). items_on lane (puts setup who view e)
-      ++ sent moved who v lane more) (after_same who view e)
+      ++ items_sent moved who v lane more) (after_same who view e)
       ∙ ap (λ (l : List Item). items_on lane (puts setup who view e) ++ l)
       (sent_same who (after setup who view e) lane more))
 
@@ -105,7 +105,7 @@ module _ (setup : SetupView) (waits : List ℕ) where
   func_same node func (suc r) =
       ap (λ (o : Option Change). func_with o (func_after moved node func r))
       (change_same (suc r) node)
-      ∙ ap (func_with (change_of setup (suc r) node)) (func_same node func r)
+      ∙ ap (func_with (change_by setup (suc r) node)) (func_same node func r)
 
   last_same : (node r : ℕ) → last_after moved node r ≡ last_after setup node r
   last_same node zero = refl
@@ -159,7 +159,7 @@ module _ (setup : SetupView) (waits : List ℕ) where
   by_same begin lane (Some who) (Some counts) (Some journal) =
       ap Some
       (sent_same who (view_at moved begin.turned who counts) lane journal
-      ∙ ap (λ (v : StateView). sent setup who v lane journal)
+      ∙ ap (λ (v : StateView). items_sent setup who v lane journal)
       (view_same begin.turned who counts))
   by_same begin lane None counts journal = refl
   by_same begin lane (Some who) None journal = refl

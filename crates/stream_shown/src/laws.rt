@@ -1,5 +1,5 @@
 ghost use Rattle.std.specs.Prelude.{◌≡◌, ◌∷◌, ℕ, List};
-ghost use Rattle.audit_laws.specs.Fits.{records_of};
+ghost use Rattle.audit_laws.specs.Fits.{csv_records};
 ghost use Rattle.flow_model.specs.Run.{Ran};
 ghost use Rattle.sink_journal.specs.Audit.{audit_header};
 ghost use Rattle.stream_shown.specs.Whole.{IsAskedOf, IsWholeStream, WholeStream, whole_records};
@@ -17,7 +17,7 @@ use versions::accepted_requests_are_in_order;
 pub fn whole_streams_are_shown(setup: &Setup, rows: &Rows)
     ensures { (whole : WholeStream) (bytes : List ℕ) → IsWholeStream rows.now whole
         → IsAskedOf setup.now rows.now whole
-        → records_of bytes ≡ audit_header ∷ whole_records whole
+        → csv_records bytes ≡ audit_header ∷ whole_records whole
         → (ran : Ran) × IsAudited (stream_subject setup.now rows.now) ran bytes }
 {
     accepted_requests_are_in_order();

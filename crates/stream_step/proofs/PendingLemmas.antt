@@ -20,7 +20,7 @@ use Rattle.flow_model.specs.Planned.{is_made_split, makes_split}
 use Rattle.flow_model.specs.Requests.{afters}
 use Rattle.stream_law.specs.Later.{IsJudgedPrefix}
 use Rattle.stream_step.specs.Parts.{IsBetweenRows, due_in}
-use Rattle.stream_step.specs.Pending.{AreAsked, SplitWithin, due_by, is_due, is_held, issued_by}
+use Rattle.stream_step.specs.Pending.{AreAsked, SplitWithin, due_by, is_due_by, is_held, issued_by}
 use Rattle.stream_step.specs.Pending.{kept_by, left_by, lifted}
 use Rattle.stream_step.specs.declared.stream.Stream.{Stream}
 
@@ -127,9 +127,9 @@ fed_both fed (x ∷ xs) ys e f =
 due_fed : (fed last : ℕ) (xs : List Request) → fed ≤ last
     → are_fed last (map (lifted fed) (due_by last xs)) ≡ true
 due_fed fed last [] le = refl
-due_fed fed last (x ∷ xs) le = go (is_due last x) refl (due_fed fed last xs le)
+due_fed fed last (x ∷ xs) le = go (is_due_by last x) refl (due_fed fed last xs le)
   where
-    go : (b : Bool) → is_due last x ≡ b → are_fed last (map (lifted fed) (due_by last xs)) ≡ true
+    go : (b : Bool) → is_due_by last x ≡ b → are_fed last (map (lifted fed) (due_by last xs)) ≡ true
         → are_fed last (map (lifted fed) (if b then x ∷ due_by last xs else due_by last xs)) ≡ true
     go true e f =
         let here : x.after ≤ last = le_of x.after last e in
@@ -179,9 +179,9 @@ none_due fed last low [] lt le o = (refl, refl)
 none_due fed last low (x ∷ xs) lt le o =
     let h : low ≤ max x.after fed = o.0 in
     let later = none_due fed last (max x.after fed) xs (omega arith) le o.1 in
-    go (is_due last x) refl h later
+    go (is_due_by last x) refl h later
   where
-    go : (b : Bool) → is_due last x ≡ b → low ≤ max x.after fed → (due_by last xs ≡ [])
+    go : (b : Bool) → is_due_by last x ≡ b → low ≤ max x.after fed → (due_by last xs ≡ [])
         × (left_by last xs ≡ xs)
         → ((if b then x ∷ due_by last xs else due_by last xs) ≡ [])
         × ((if not b then x ∷ left_by last xs else left_by last xs) ≡ x ∷ xs)
@@ -193,9 +193,9 @@ pub due_then_left : (fed last low : ℕ) (xs : List Request) → fed ≤ last
     → AreInOrder low (map (lifted fed) xs) → due_by last xs ++ left_by last xs ≡ xs
 due_then_left fed last low [] le o = refl
 due_then_left fed last low (x ∷ xs) le o =
-    go (is_due last x) refl (due_then_left fed last (max x.after fed) xs le o.1)
+    go (is_due_by last x) refl (due_then_left fed last (max x.after fed) xs le o.1)
   where
-    go : (b : Bool) → is_due last x ≡ b → due_by last xs ++ left_by last xs ≡ xs
+    go : (b : Bool) → is_due_by last x ≡ b → due_by last xs ++ left_by last xs ≡ xs
         → (if b then x ∷ due_by last xs else due_by last xs)
         ++ (if not b then x ∷ left_by last xs else left_by last xs) ≡ x ∷ xs
     go true e f = ap (λ (l : List Request). x ∷ l) f
@@ -210,9 +210,9 @@ due_then_left fed last low (x ∷ xs) le o =
 left_lifted : (fed last : ℕ) (xs : List Request) → fed ≤ last → map (lifted last) (left_by last xs)
     ≡ map (lifted fed) (left_by last xs)
 left_lifted fed last [] le = refl
-left_lifted fed last (x ∷ xs) le = go (is_due last x) refl (left_lifted fed last xs le)
+left_lifted fed last (x ∷ xs) le = go (is_due_by last x) refl (left_lifted fed last xs le)
   where
-    go : (b : Bool) → is_due last x ≡ b → map (lifted last) (left_by last xs)
+    go : (b : Bool) → is_due_by last x ≡ b → map (lifted last) (left_by last xs)
         ≡ map (lifted fed) (left_by last xs)
         → map (lifted last) (if not b then x ∷ left_by last xs else left_by last xs)
         ≡ map (lifted fed) (if not b then x ∷ left_by last xs else left_by last xs)
@@ -470,7 +470,7 @@ issued_within mask exact fed last xs is = go (is_held exact fed last)
     go : (held : Bool)
         → SplitWithin mask (map (lifted fed) (if held then [] else due_by last xs))
     go true = λ node made. absurd (cc)
-    go false = within_some mask fed (is_due last) xs is
+    go false = within_some mask fed (is_due_by last) xs is
 
 pub kept_within : (mask : ℕ) (exact : Option ℕ) (fed last : ℕ) (xs : List Request)
     → SplitWithin mask xs → SplitWithin mask (kept_by exact fed last xs)
@@ -478,7 +478,7 @@ kept_within mask exact fed last xs is = go (is_held exact fed last)
   where
     go : (held : Bool) → SplitWithin mask (if held then xs else left_by last xs)
     go true = is
-    go false = within_left mask (λ request. not (is_due last request)) xs is
+    go false = within_left mask (λ request. not (is_due_by last request)) xs is
 
 -- a part of an exact stream has no row, or it issues no request
 pub between_rows : (stream : Stream) (base last : ℕ) (rows : List Row) → stream.exact ≡ Some base

@@ -37,8 +37,8 @@ abbrev pub due_in : Stream → ℕ → List Request
 due_in stream last = issued_by stream.exact stream.start.row last stream.pending
 
 -- those that it leaves
-abbrev pub left_in : Stream → ℕ → List Request
-left_in stream last = kept_by stream.exact stream.start.row last stream.pending
+abbrev pub left_by_parts : Stream → ℕ → List Request
+left_by_parts stream last = kept_by stream.exact stream.start.row last stream.pending
 
 -- a part has no row after this one, or it issues no request
 abbrev pub IsBetweenRows : ℕ → List Request → List Row → Type 0

@@ -13,16 +13,16 @@ abbrev pub lifted : ℕ → Request → Request
 lifted fed request = record request { after = max request.after fed }
 
 -- the request asks for a row up to this one
-abbrev pub is_due : ℕ → Request → Bool
-is_due last request = nat_le request.after last
+abbrev pub is_due_by : ℕ → Request → Bool
+is_due_by last request = nat_le request.after last
 
 -- the requests that ask for a row up to this one
 abbrev pub due_by : ℕ → List Request → List Request
-due_by last requests = filter (is_due last) requests
+due_by last requests = filter (is_due_by last) requests
 
 -- the requests that ask for a later row
 abbrev pub left_by : ℕ → List Request → List Request
-left_by last requests = filter (λ request. not (is_due last request)) requests
+left_by last requests = filter (λ request. not (is_due_by last request)) requests
 
 -- how many requests were issued when a stream became exact, if it is to be so from there on
 abbrev pub exact_from : Bool → ℕ → Option ℕ
@@ -48,7 +48,7 @@ kept_by exact fed last requests =
 abbrev pub first_wait : ℕ → ℕ → List Request → ℕ
 first_wait fed last [] = last
 first_wait fed last (request ∷ more) =
-    first_wait fed (if is_due fed request then last else min last request.after) more
+    first_wait fed (if is_due_by fed request then last else min last request.after) more
 
 -- the requests make splits only of nodes that the mask holds
 abbrev pub SplitWithin : ℕ → List Request → Type 0

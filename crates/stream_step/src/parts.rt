@@ -7,7 +7,7 @@ ghost use Rattle.versions.specs.declared.request.Request.{Request};
 ghost use Rattle.flow_model.specs.Planned.{IsFollowed};
 ghost use Rattle.flow_model.specs.Setup.{setup_view};
 ghost use Rattle.flow_model.specs.Workers.{workers_in};
-ghost use Rattle.stream_step.specs.Parts.{due_in, left_in};
+ghost use Rattle.stream_step.specs.Parts.{due_in, left_by_parts};
 ghost use Rattle.stream_step.specs.Pending.{AreAsked, SplitWithin, lifted};
 
 use crate::pending::{Parted, all_lifted, parted_by};
@@ -70,7 +70,7 @@ impl Stream {
             part.setup.judged.refused ≡ self.setup.judged.refused) }
         ensures start { IfOk result (λ part. part.start ≡ self.start) }
         ensures last { IfOk result (λ part. part.last ≡ last) }
-        ensures pending { IfOk result (λ part. part.pending ≡ left_in self last) }
+        ensures pending { IfOk result (λ part. part.pending ≡ left_by_parts self last) }
         ensures asked { IfOk result (λ part. (all : List Request)
             → AreAsked (job_view self.setup.job) self.setup.judged.accepted self.pending all
             → AreAsked (job_view part.setup.job) part.setup.judged.accepted part.pending all) }

@@ -2,7 +2,7 @@
 ghost use Rattle.std.specs.Prelude.{◌≡◌, ◌<◌, ◌≤◌, IfOk, map};
 ghost use Rattle.std.specs.List.{list_any};
 ghost use Rattle.stream_step.specs.Pending.{due_by as due_by_of, first_wait as first_wait_of};
-ghost use Rattle.stream_step.specs.Pending.{is_due, issued_by, kept_by, left_by};
+ghost use Rattle.stream_step.specs.Pending.{is_due_by, issued_by, kept_by, left_by};
 ghost use Rattle.stream_step.specs.Pending.{lifted as lifted_of};
 
 use std::alloc::Global;
@@ -85,7 +85,7 @@ pub fn lifted(request: Request, fed: u64) -> Request
 
 /// Whether one of the requests asks for a row up to `row`.
 pub fn some_due(requests: &[Request], row: u64) -> bool
-    ensures { result ≡ list_any (is_due row) requests.now }
+    ensures { result ≡ list_any (is_due_by row) requests.now }
 {
     requests.iter().any(|request| request.after <= row)
 }

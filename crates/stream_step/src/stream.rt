@@ -10,7 +10,7 @@ ghost use Rattle.flow_model.specs.Begin.{at_first};
 ghost use Rattle.flow_model.specs.Planned.{may_become_split, splits_at};
 ghost use Rattle.flow_model.specs.Setup.{setup_view};
 ghost use Rattle.flow_model.specs.Workers.{workers_in};
-ghost use Rattle.stream_step.specs.Pending.{AreAsked, SplitWithin, is_due, lifted};
+ghost use Rattle.stream_step.specs.Pending.{AreAsked, SplitWithin, is_due_by, lifted};
 ghost use Rattle.stream_step.specs.Pending.{exact_from as exact_from_of};
 ghost use Rattle.stream_step.specs.Pending.{first_wait as first_wait_of};
 
@@ -130,7 +130,7 @@ impl Stream {
     /// asks for no later row than the last that was fed.
     pub fn has_due(&self) -> bool
         ensures { result ≡ (is_some self.now.exact
-            && list_any (is_due self.now.start.row) self.now.pending) }
+            && list_any (is_due_by self.now.start.row) self.now.pending) }
     {
         self.exact.is_some() && some_due(self.pending.as_slice(), self.start.row)
     }

@@ -11,7 +11,7 @@ use Rattle.versions.specs.declared.request.Request.{Request}
 use Rattle.fries_lines.specs.Faults.{limit_of}
 use Rattle.fries_lines.specs.Lines.{noted}
 use Rattle.fries_lines.specs.declared.fault.FileIs.TheVariants as file
-use Rattle.fries_steps.specs.Reading.{HasRead}
+use Rattle.fries_steps.specs.Reading.{HasReadFile}
 use Rattle.stream_step.specs.declared.stream.Stream.{Stream}
 use Rattle.stream_intake.specs.Intake.{accepted_after, known_after, refused_after}
 use Rattle.stream_turns.specs.declared.inputs.StreamInputs.{StreamInputs}
@@ -55,6 +55,6 @@ abbrev pub TakesFile : Option Files → List ℕ → Faults → Faults → Strea
     → StreamInputs → Stream
     → Type 0
 TakesFile files name before after old stream new next =
-    HasRead file.Requests (λ bytes. TakesBytes bytes old stream new next) files name
+    HasReadFile file.Requests (λ bytes. TakesBytes bytes old stream new next) files name
     ⊎ (TakesNothing old stream new next × (ReadFailed name before after
     ⊎ IfSome (told_bytes files name) (λ bytes. limit_of file.Requests < length bytes)))

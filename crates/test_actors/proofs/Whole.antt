@@ -7,7 +7,7 @@ use Rattle.flow_model.specs.Begin.{Begin, at_first}
 use Rattle.flow_model.specs.SetupView.{SetupView, Worker as WorkerOf}
 use Rattle.flow_model.specs.Workers.{workers_in}
 use Rattle.flow_worker.specs.Endpoints.{LaneInIs, LaneOutIs, SameIn, SameOut}
-use Rattle.flow_worker.specs.Pairs.{Each}
+use Rattle.flow_worker.specs.Pairs.{EachOne}
 use Rattle.flow_worker.specs.Turning.{IsDone, SameEndpoints}
 use Rattle.flow_worker.specs.Worker.{IsWorker, WorkerIs}
 use Rattle.flow_worker.proofs.Pairs.{get_map, get_mapped, length_mapped, pairs_keep}
@@ -27,10 +27,10 @@ same_lanes w v same = λ i. (
   pairs_keep SameOut (λ (a : LaneOutIs). (a.lane, a.number)) w.outs v.outs (λ x y s j. (s.0 j, s.1 j)) same.outs i,
 )
 
-pub each_law : (setup : SetupView) (begin : Begin) (workers : List WorkerIs) → IsCrew setup begin workers → Each (IsWorker setup begin) workers
+pub each_law : (setup : SetupView) (begin : Begin) (workers : List WorkerIs) → IsCrew setup begin workers → EachOne (IsWorker setup begin) workers
 each_law setup begin workers crew = each_placed (IsWorker setup begin) workers crew.law
 
-pub still_crew : (setup : SetupView) (begin : Begin) (workers later : List WorkerIs) → IsCrew setup begin workers → Each (IsWorker setup begin) later → map (λ (w : WorkerIs). w.number) later ≡ map (λ (w : WorkerIs). w.number) workers
+pub still_crew : (setup : SetupView) (begin : Begin) (workers later : List WorkerIs) → IsCrew setup begin workers → EachOne (IsWorker setup begin) later → map (λ (w : WorkerIs). w.number) later ≡ map (λ (w : WorkerIs). w.number) workers
     → IsCrew setup begin later
 still_crew setup begin workers later crew law same = record {
   many =
@@ -44,7 +44,7 @@ still_crew setup begin workers later crew law same = record {
 }
 
 pub over : (setup : SetupView) (rows : List Row) (workers later : List WorkerIs) (outs left : List EndpointIs) (feeder f : FeederIs) (feeds : List Feed) → IsCrew setup (at_first setup) workers → AreMatched (map worker_side workers) outs → feeder.outs ≡ outs
-    → Each (IsWorker setup (at_first setup)) later → Each IsDone later → map (λ (w : WorkerIs). w.number) later ≡ map (λ (w : WorkerIs). w.number) workers → map lane_ids later ≡ map lane_ids workers
+    → EachOne (IsWorker setup (at_first setup)) later → EachOne IsDone later → map (λ (w : WorkerIs). w.number) later ≡ map (λ (w : WorkerIs). w.number) workers → map lane_ids later ≡ map lane_ids workers
     → IsFeeder false setup (at_first setup) rows f → f.stopped ≡ true → map end_of f.outs ≡ map end_of feeder.outs → feeds ≡ f.feeds → f.outs ≡ left → IsOver setup (at_first setup) rows later feeds left
 over setup rows workers later outs left feeder f feeds crew matched fed laws done number lanes law stopped endpoints feeds_are outs_are = record {
   starts = length_mapped (λ (post : WorkerOf). empty) (workers_in setup.job);

@@ -12,7 +12,7 @@ use Rattle.flow_model.specs.Workers.{workers_in}
 use Rattle.flow_worker.specs.Parts.{WorkedIs}
 use Rattle.coordinator.specs.Feeding.{AreRising, issue_rows}
 use Rattle.flow_crew.specs.Ended.{record_of}
-use Rattle.flow_engine.specs.Flown.{number_of}
+use Rattle.flow_engine.specs.Flown.{number_worked}
 use Rattle.flow_engine.specs.Recorded.{recorded}
 
 -- The rows after which the requests of a setup were issued: one for each, in order, and none before
@@ -32,7 +32,7 @@ IsFirst begin = (begin.row ≡ 0) × (begin.turned ≡ 0)
 -- a run of the recorded setup.
 pub record HasRun (live : Bool) (begin : Begin) (setup : SetupView) (rows : List Row)
     (feeds : List Feed) (crew : List WorkedIs) : Type 0 where
-  pub crew_is : map number_of crew ≡ range_with_len 0 (length (workers_in setup.job))
+  pub crew_is : map number_worked crew ≡ range_with_len 0 (length (workers_in setup.job))
   pub waits : live ≡ true → AreWaits (length rows) setup.requests (issue_rows 0 feeds)
   pub run :
       IsRunSince begin (recorded live feeds setup) rows

@@ -13,7 +13,7 @@ use Rattle.flow_model.specs.Covers.{covers}
 use Rattle.flow_model.specs.Lanes.{is_same_lane, lanes, lanes_in, marked_lanes}
 use Rattle.flow_model.specs.declared.topology.Lane.{Lane}
 use Rattle.flow_model.specs.SetupView.{SetupView, Worker}
-use Rattle.flow_model.specs.Replay.{StateView, Put, after, after_all, items_on, sent, shown}
+use Rattle.flow_model.specs.Replay.{StateView, Put, after, after_all, items_on, items_sent, shown}
 use Rattle.flow_model.specs.WorkerState.{first_state, made, state_view}
 use Rattle.flow_model.specs.Workers.{nth_worker}
 use Rattle.flow_replay.specs.declared.worker_run.WorkerRun.{WorkerRun}
@@ -105,7 +105,7 @@ end_block job w = ended_entries (lanes_in job w)
 abbrev pub put_so_far : SetupView → List Put → List WorkerRun → Lane → Option ℕ → List Item
 put_so_far setup fed runs lane None = items_on lane fed
 put_so_far setup fed runs lane (Some w) =
-    sent setup (nth_worker setup.job w) (first_view setup (nth_worker setup.job w)) lane
+    items_sent setup (nth_worker setup.job w) (first_view setup (nth_worker setup.job w)) lane
     (journal_at runs w)
 
 -- each lane shows what was put on it, but for what is in flight

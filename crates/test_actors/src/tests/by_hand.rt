@@ -3,7 +3,7 @@ ghost use Rattle.std.specs.Prelude.{◌≡◌, [], IfOk, IfSome, OnOk};
 ghost use Rattle.flow_model.specs.Setup.{setup_view};
 ghost use Rattle.flow_model.specs.Begin.{at_first};
 ghost use Rattle.flow_worker.specs.Worker.{IsWorker};
-ghost use Rattle.test_actors.specs.Crews.{AreWorkers};
+ghost use Rattle.test_actors.specs.Crews.{AreLawfulWorkers};
 
 use crate::tests::control::{Control, controls_of};
 use crate::tests::fed::FedLane;
@@ -161,8 +161,8 @@ fn take_step<L: Lanes, G: Gate>(
     gate: &G,
     step: Step,
 ) -> Result<bool, NoMemory>
-    requires { AreWorkers (setup_view setup.now) driven.old.workers.items }
-    ensures { OnOk result (AreWorkers (setup_view setup.now) driven.new.workers.items) }
+    requires { AreLawfulWorkers (setup_view setup.now) driven.old.workers.items }
+    ensures { OnOk result (AreLawfulWorkers (setup_view setup.now) driven.new.workers.items) }
 {
     match step {
         Step::Feed(row, cents, has_room) => {
@@ -195,8 +195,8 @@ fn first_wrong<L: Lanes, G: Gate>(
     gate: &G,
     script: &[Step],
 ) -> Result<Option<usize>, NoMemory>
-    requires { AreWorkers (setup_view setup.now) driven.old.workers.items }
-    ensures { OnOk result (AreWorkers (setup_view setup.now) driven.new.workers.items) }
+    requires { AreLawfulWorkers (setup_view setup.now) driven.old.workers.items }
+    ensures { OnOk result (AreLawfulWorkers (setup_view setup.now) driven.new.workers.items) }
 {
     for (place, step) in script.iter().enumerate() {
         if !take_step(alloc, driven, setup, gate, *step)? {
@@ -248,7 +248,7 @@ fn leave_journals<L: Lanes, G: Gate>(
     setup: &Setup,
     gate: &G,
 ) -> bool
-    requires { AreWorkers (setup_view setup.now) workers.items }
+    requires { AreLawfulWorkers (setup_view setup.now) workers.items }
 {
     let mut seen = 0;
     for worker in workers {
@@ -283,7 +283,7 @@ fn driven_of<L: Lanes>(
     setup: &Setup,
 ) -> Result<Option<Driven<L>>, NoMemory>
     ensures { IfOk result (λ made. IfSome made (λ driven.
-        AreWorkers (setup_view setup.now) driven.workers.items)) }
+        AreLawfulWorkers (setup_view setup.now) driven.workers.items)) }
 {
     let Crew {
         workers,
@@ -304,7 +304,7 @@ fn driven_of<L: Lanes>(
 
 // How the workers went that followed the script.
 fn left_by<L: Lanes>(driven: Driven<L>, setup: &Setup, gate: &Watch) -> Went
-    requires { AreWorkers (setup_view setup.now) driven.workers.items }
+    requires { AreLawfulWorkers (setup_view setup.now) driven.workers.items }
 {
     let Driven {
         workers,
@@ -322,7 +322,7 @@ fn left_by<L: Lanes>(driven: Driven<L>, setup: &Setup, gate: &Watch) -> Went
 }
 
 fn follow<L: Lanes>(alloc: Global, driven: Driven<L>, setup: &Setup) -> Result<Went, NoMemory>
-    requires { AreWorkers (setup_view setup.now) driven.workers.items }
+    requires { AreLawfulWorkers (setup_view setup.now) driven.workers.items }
 {
     let mut driven = driven;
     let gate = Watch::new();

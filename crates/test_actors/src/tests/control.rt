@@ -1,6 +1,6 @@
 ghost use Rattle.std.specs.Prelude.{◌≡◌};
 ghost use Rattle.control_box.specs.Endpoints.{PosterIs};
-ghost use Rattle.flow_worker.specs.Pairs.{Each};
+ghost use Rattle.flow_worker.specs.Pairs.{EachOne};
 
 use control_box::Poster;
 use std::alloc::Global;
@@ -39,7 +39,7 @@ impl Control {
 
 /// Keeps the posters of new boxes, in their order.
 pub fn controls_of(alloc: Global, posters: Vec<Poster>) -> Result<Vec<Control>, NoMemory>
-    requires { Each (λ (p : PosterIs). p.posted ≡ 0) posters.items }
+    requires { EachOne (λ (p : PosterIs). p.posted ≡ 0) posters.items }
 {
     let mut controls = Vec::new(alloc);
     for poster in posters {

@@ -2,7 +2,7 @@
 ghost use Rattle.flow_model.specs.Begin.{at_first};
 ghost use Rattle.flow_model.specs.Setup.{setup_view};
 ghost use Rattle.flow_worker.specs.Worker.{IsWorker};
-ghost use Rattle.test_actors.specs.Crews.{AreWorkers};
+ghost use Rattle.test_actors.specs.Crews.{AreLawfulWorkers};
 
 use flow_crew::Crew;
 use flow_model::Setup;
@@ -174,7 +174,7 @@ fn is_idle<L: Lanes>(mut worker: Worker<L>, need: &mut L::Need, setup: &Setup) -
 }
 
 fn are_idle<L: Lanes>(workers: Vec<Worker<L>>, need: &mut L::Need, setup: &Setup) -> bool
-    requires { AreWorkers (setup_view setup.now) workers.items }
+    requires { AreLawfulWorkers (setup_view setup.now) workers.items }
 {
     let mut idle = true;
     for worker in workers {

@@ -1,6 +1,6 @@
 ghost use Rattle.std.specs.Prelude.{◌<◌, length};
 ghost use Rattle.flow_model.specs.Setup.{setup_view};
-ghost use Rattle.test_actors.specs.Crews.{AreWorkers};
+ghost use Rattle.test_actors.specs.Crews.{AreLawfulWorkers};
 
 use flow_model::Setup;
 use flow_worker::{Turn, Worker};
@@ -15,9 +15,9 @@ pub fn turn_at<L: Lanes, G: Gate>(
     gate: &G,
     number: usize,
 ) -> Turn
-    requires law { AreWorkers (setup_view setup.now) workers.old }
+    requires law { AreLawfulWorkers (setup_view setup.now) workers.old }
     requires within { number < length workers.old }
-    ensures { AreWorkers (setup_view setup.now) workers.new }
+    ensures { AreLawfulWorkers (setup_view setup.now) workers.new }
 {
     workers[number].turn(need, setup, gate)
 }

@@ -4,7 +4,7 @@ ghost use Rattle.jobs.specs.Nodes.{AreFromSources};
 ghost use Rattle.flow_model.specs.Begin.{at_first};
 ghost use Rattle.flow_model.specs.Run.{IsRun};
 ghost use Rattle.flow_model.specs.Setup.{setup_view};
-ghost use Rattle.flow_worker.specs.Pairs.{Each};
+ghost use Rattle.flow_worker.specs.Pairs.{EachOne};
 ghost use Rattle.flow_worker.specs.Turning.{IsDone};
 ghost use Rattle.flow_worker.specs.Worker.{IsWorker, WorkerIs};
 ghost use Rattle.coordinator.specs.Feeding.{IsFeeder};
@@ -83,11 +83,11 @@ fn all_done<L: Lanes>(
     setup: &Setup,
     turns: u32,
 ) -> Option<Vec<Worker<L>>>
-    requires { Each (IsWorker (setup_view setup.now) (at_first (setup_view setup.now)))
+    requires { EachOne (IsWorker (setup_view setup.now) (at_first (setup_view setup.now)))
         workers.items }
     ensures law { IfSome result (λ done.
-        Each (IsWorker (setup_view setup.now) (at_first (setup_view setup.now))) done.items) }
-    ensures done { IfSome result (λ done. Each IsDone done.items) }
+        EachOne (IsWorker (setup_view setup.now) (at_first (setup_view setup.now))) done.items) }
+    ensures done { IfSome result (λ done. EachOne IsDone done.items) }
     ensures number { IfSome result (λ done. map (λ (w : WorkerIs). w.number) done.items
         ≡ map (λ (w : WorkerIs). w.number) workers.items) }
     ensures lanes { IfSome result (λ done. map lane_ids done.items

@@ -3,7 +3,7 @@ use Rattle.std.proofs.lemmas.Int.{to_z-of_z}
 use mir.Val.{SFits}
 use Rattle.jobs.specs.Job.{job_view}
 use Rattle.audit_laws.specs.declared.audit.Line.TheVariants as line
-use Rattle.audit_laws.specs.Lines.{IsLine, line_fields}
+use Rattle.audit_laws.specs.Lines.{IsLawfulLine, line_fields}
 use Rattle.audit_laws.specs.Names.{named_workers}
 use Rattle.audit_check.specs.Cells.{cells_of}
 use Rattle.audit_check.proofs.LineLemmas.{no_line, no_worker, state_line, step_line}
@@ -29,5 +29,5 @@ returns-clause-some c =
     let w = c.in-Some-worker_named.worker in
     let fits : SFits w64 c.in-Some-count_in.count = search rules in
     let same = to_z-of_z w64 c.in-Some-count_in.count fits in
-    subst (λ (z : ℤ). IsLine job (line.State w c.in_ok-key.key z) × (cells_of c.args.six ≡ line_fields (named_workers job.nodes) (line.State w c.in_ok-key.key z))) (sym same)
+    subst (λ (z : ℤ). IsLawfulLine job (line.State w c.in_ok-key.key z) × (cells_of c.args.six ≡ line_fields (named_workers job.nodes) (line.State w c.in_ok-key.key z))) (sym same)
     (state_line job c.args.six w c.in_ok-key.key c.in-Some-count_in.count c.in-Some-worker_named.ensures.some fits.sfits c.in_ok-key.ensures c.in-Some-count_in.ensures.some)

@@ -4,7 +4,7 @@ use Rattle.flow_model.specs.SetupView.{SetupView}
 use Rattle.flow_model.specs.Setup.{setup_view}
 use Rattle.flow_model.specs.Workers.{workers_in}
 use Rattle.flow_model.proofs.JobLemmas.{connected}
-use Rattle.audit_laws.specs.Fits.{records_of}
+use Rattle.audit_laws.specs.Fits.{csv_records}
 use Rattle.audit_laws.proofs.OneRunLemmas.{one_run}
 use Rattle.audit_laws.proofs.VerdictLemmas.{in_shape, same_trims}
 use Rattle.audit_laws.proofs.laws.texts_tell_the_run.Goals as goal
@@ -17,6 +17,6 @@ returns c begin refused text a b begins noted x y p q =
     let job = c.args.setup.now.job in
     let here : SetupView = setup_view c.args.setup.now in
     one_run begin here (connected (job_view job) job.dag job.lawful refl job.drawn) rows a b x y (
-    same_trims here job.lawful refused (records_of text) a.feeds b.feeds a.journals b.journals a.states b.states
+    same_trims here job.lawful refused (csv_records text) a.feeds b.feeds a.journals b.journals a.states b.states
     (x.run.one_journal_each ∙ ap (λ (s : SetupView). length (workers_in s.job)) x.setup_is) (x.run.one_state_each ∙ ap (λ (s : SetupView). length (workers_in s.job)) x.setup_is)
     (y.run.one_journal_each ∙ ap (λ (s : SetupView). length (workers_in s.job)) y.setup_is) (y.run.one_state_each ∙ ap (λ (s : SetupView). length (workers_in s.job)) y.setup_is) (in_shape begin here rows refused text a x p v) (in_shape begin here rows refused text b y q w))

@@ -6,8 +6,8 @@ use Rattle.sink_journal.specs.declared.journal.Feed.{Feed}
 use Rattle.flow_model.specs.Run.{IsRunSince, ran_as}
 use Rattle.flow_model.specs.Setup.{setup_view}
 use Rattle.audit_laws.specs.declared.audit.Line.{Line}
-use Rattle.audit_laws.specs.Fits.{records_of}
-use Rattle.audit_laws.specs.Verdict.{IsFaultOf, fields_of}
+use Rattle.audit_laws.specs.Fits.{csv_records}
+use Rattle.audit_laws.specs.Verdict.{IsFirstFault, fields_of}
 use Rattle.fries_lines.specs.Lines.{noted}
 use Rattle.audit_restore.proofs.CheckLemmas.{all_noted, is_checked, lines_kept, only_memory, text_fault}
 use Rattle.audit_restore.proofs.check.rebuild.Goals as goal
@@ -19,7 +19,7 @@ returns-in_err-told-clause-found c run is fits =
     let f = c.in_err-told.field-0.0 in
     let refused_is = c.in_ok-refused.ensures ∙ ap (map noted) c.as_slice.ensures in
     let narrow = subst (All (λ (n : Noted). n.place < 2 ^ 32)) (c.as_slice-2.ensures.value ∙ refused_is) c.places_are_narrow.ensures in
-    let found = subst (λ (r : List Noted). IsFaultOf c.args.start.now setup c.args.setup.now.job.dag.order r c.args.rows.now (records_of text) f) (c.as_slice-3.ensures.value ∙ refused_is) c.in_err-told.ensures.fault in
+    let found = subst (λ (r : List Noted). IsFirstFault c.args.start.now setup c.args.setup.now.job.dag.order r c.args.rows.now (csv_records text) f) (c.as_slice-3.ensures.value ∙ refused_is) c.in_err-told.ensures.fault in
     let e = only_memory f (λ ne. c.texts_of_runs_have_no_fault.ensures c.args.start.now (map noted c.args.setup.now.judged.refused) text run f c.counts_are_in_range.ensures (all_noted c.args.setup.now.judged.refused narrow) is fits ne found) in
     search (rules, e)
 
@@ -30,7 +30,7 @@ returns-in_err-restored-clause-fault c =
     let f = c.in_err-restored.field-0.0 in
     let refused_is = c.in_ok-refused.ensures ∙ ap (map noted) c.as_slice.ensures in
     let lines = c.in_ok-told.ensures.lines in
-    let found = text_fault c.args.start.now setup c.args.setup.now.job.dag.order (map noted c.args.setup.now.judged.refused) c.args.rows.now (records_of text) lines.0 c.in_ok-told.told lines.1 (lines.2 ∙ (c.as_slice-3.ensures.value ∙ refused_is)) lines.3 lines.4
+    let found = text_fault c.args.start.now setup c.args.setup.now.job.dag.order (map noted c.args.setup.now.judged.refused) c.args.rows.now (csv_records text) lines.0 c.in_ok-told.told lines.1 (lines.2 ∙ (c.as_slice-3.ensures.value ∙ refused_is)) lines.3 lines.4
     f c.in_err-restored.ensures.fault in
     search (rules, found)
 
@@ -42,7 +42,7 @@ returns-in_err-restored-clause-found c run is fits =
     let refused_is = c.in_ok-refused.ensures ∙ ap (map noted) c.as_slice.ensures in
     let narrow = subst (All (λ (n : Noted). n.place < 2 ^ 32)) (c.as_slice-2.ensures.value ∙ refused_is) c.places_are_narrow.ensures in
     let lines = c.in_ok-told.ensures.lines in
-    let found = text_fault c.args.start.now setup c.args.setup.now.job.dag.order (map noted c.args.setup.now.judged.refused) c.args.rows.now (records_of text) lines.0 c.in_ok-told.told lines.1 (lines.2 ∙ (c.as_slice-3.ensures.value ∙ refused_is)) lines.3 lines.4
+    let found = text_fault c.args.start.now setup c.args.setup.now.job.dag.order (map noted c.args.setup.now.judged.refused) c.args.rows.now (csv_records text) lines.0 c.in_ok-told.told lines.1 (lines.2 ∙ (c.as_slice-3.ensures.value ∙ refused_is)) lines.3 lines.4
     f c.in_err-restored.ensures.fault in
     let e = only_memory f (λ ne. c.texts_of_runs_have_no_fault.ensures c.args.start.now (map noted c.args.setup.now.judged.refused) text run f c.counts_are_in_range.ensures (all_noted c.args.setup.now.judged.refused narrow) is fits ne found) in
     search (rules, e)
@@ -69,7 +69,7 @@ returns-clause-fits c =
     let feeds = c.in_ok-told.feeds in
     let checked = is_checked c.args.start.now setup c.requires.states c.args.rows.now c.in_ok-told.told.journals.items journals states c.in_ok-restored.ensures.finished lines.4.journals_long c.in_ok-restored.ensures.restored in
     let is = returns-clause-run c in
-    let kept = lines_kept setup refused (records_of text) lines.0 c.in_ok-told.told feeds journals states lines.1 (lines.2 ∙ (c.as_slice-3.ensures.value ∙ refused_is)) (lines.3 ∙ sym c.in_ok-told.ensures.feeds) lines.4
+    let kept = lines_kept setup refused (csv_records text) lines.0 c.in_ok-told.told feeds journals states lines.1 (lines.2 ∙ (c.as_slice-3.ensures.value ∙ refused_is)) (lines.3 ∙ sym c.in_ok-told.ensures.feeds) lines.4
     checked.restored c.in_ok-restored.ensures.states in
     (c.runs_fit_their_lines.ensures c.args.start.now c.args.rows.now refused text (ran_as setup feeds journals states) is).0
     (lines.1.fields ∙ ap (λ (l : List Line). audit_header ∷ fields_of setup.job l) kept)

@@ -5,9 +5,9 @@ use Rattle.tuple_trace.specs.declared.row.Row.{Row}
 use Rattle.tuple_trace.specs.declared.tuple.Item.{Item}
 use Rattle.flow_model.specs.declared.topology.Topology.{Topology}
 use Rattle.flow_model.specs.Begin.{Begin}
-use Rattle.flow_model.specs.Feeding.{fed_put, row_at}
+use Rattle.flow_model.specs.Feeding.{fed_put, row_numbered}
 use Rattle.flow_model.specs.Setup.{setup_view}
-use Rattle.audit_restore.specs.Standing.{Holds}
+use Rattle.audit_restore.specs.Standing.{HoldsLanes}
 use Rattle.audit_restore.proofs.FeedLemmas.{AreFed, fed_first, fed_last, fed_request, fed_row, fed_stopped, holds_nothing}
 use Rattle.audit_restore.proofs.IssueLemmas.{few_issues, issues_in}
 use Rattle.audit_restore.proofs.feed.fed_lanes.Goals.{in-Fed+in_ok-feed-in-Fed, in-Issued, in-Stopped}
@@ -44,7 +44,7 @@ loop-step-preserved c =
           subst (λ n. AreFed job rows turned feeds (i + 1) n c.match-step.standing) (sym w.issued-is)
           (subst (λ (s : List (List Item)). AreFed job rows turned feeds (i + 1) issued s) (sym w.standing-is)
           (fed_row job rows turned feeds i issued _ old inv c.loop-step-test.true w.in-Fed.row w.feed.new.standing w.in-Fed.is
-          (subst (λ (r : List Row). Holds job w.feed.new.standing (inv.puts ++ fed_put job issued (row_at r w.in-Fed.row))) c.as_slice-list.ensures.value
+          (subst (λ (r : List Row). HoldsLanes job w.feed.new.standing (inv.puts ++ fed_put job issued (row_numbered r w.in-Fed.row))) c.as_slice-list.ensures.value
           (w.in_ok-feed-in-Fed.ensures inv.puts inv.holds))))
       | in-Issued w ↦
           subst (λ n. AreFed job rows turned feeds (i + 1) n c.match-step.standing) (sym w.issued-is)

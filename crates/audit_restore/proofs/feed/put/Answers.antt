@@ -8,7 +8,7 @@ use Rattle.tuple_trace.specs.declared.tuple.Tuple.{Tuple}
 use Rattle.flow_model.specs.Feeding.{fed_tuple}
 use Rattle.flow_model.specs.Lanes.{lane_of, lanes}
 use Rattle.flow_model.proofs.OutLanes.{feeder_alone}
-use Rattle.audit_restore.specs.Standing.{Holds}
+use Rattle.audit_restore.specs.Standing.{HoldsLanes}
 use Rattle.audit_restore.proofs.FeedLemmas.{holds_more, holds_none}
 use Rattle.audit_restore.proofs.feed.put.Goals as goal
 
@@ -35,5 +35,5 @@ returns c puts holds =
     let old = c.args.standing.now in
     let number = c.in-Some.ensures.some None (feeder_alone job row.source c.requires.source).1 in
     let is = c.in_ok-put.ensures ∙ ap (λ (t : Tuple). slice_set old n (get_or old n [] ++ item.Carry t ∷ [])) c.in_ok-tuple.ensures in
-    subst (λ (s : List (List Item)). Holds job s (puts ++ record { lane = lane_of job None row.source 0 row.tuple; item = item.Carry (fed_tuple c.args.issued row) } ∷ [])) (sym is)
+    subst (λ (s : List (List Item)). HoldsLanes job s (puts ++ record { lane = lane_of job None row.source 0 row.tuple; item = item.Carry (fed_tuple c.args.issued row) } ∷ [])) (sym is)
     (holds_more job old puts n number.0 (record { lane = lane_of job None row.source 0 row.tuple; item = item.Carry (fed_tuple c.args.issued row) }) holds number.2 number.1)

@@ -1,6 +1,6 @@
 use Rattle.std.proofs.Common.{◌∙◌, rules}
 use Rattle.flow_model.specs.Setup.{setup_view}
-use Rattle.audit_laws.specs.Fits.{records_of}
+use Rattle.audit_laws.specs.Fits.{csv_records}
 use Rattle.audit_restore.proofs.PartLemmas.{bare, first_fault}
 use Rattle.audit_restore.proofs.part.read_feed.Goals as goal
 
@@ -9,7 +9,7 @@ returns-in_err-check_refused-clause-fault c =
     let begin = c.args.start.now in
     let rows = c.args.rows.now in
     let fault =
-    first_fault begin (setup_view c.args.setup.now) c.args.setup.now.job.dag.order c.args.refused.now rows (records_of c.args.bytes.now) c.in_err-check_refused.field-0.0
+    first_fault begin (setup_view c.args.setup.now) c.args.setup.now.job.dag.order c.args.refused.now rows (csv_records c.args.bytes.now) c.in_err-check_refused.field-0.0
     (c.in_err-check_refused.ensures.fault begin rows) (c.in_err-check_refused.ensures.fault (bare begin) rows) in
     search (rules, fault)
 
@@ -29,6 +29,6 @@ returns-in_err-check_feed-clause-fault c =
     let rows = c.args.rows.now in
     let wanted = c.as_slice.ensures ∙ c.in_ok-feeds.ensures in
     let fault =
-    first_fault begin (setup_view c.args.setup.now) c.args.setup.now.job.dag.order c.args.refused.now rows (records_of c.args.bytes.now) c.in_err-check_feed.field-0.0
+    first_fault begin (setup_view c.args.setup.now) c.args.setup.now.job.dag.order c.args.refused.now rows (csv_records c.args.bytes.now) c.in_err-check_feed.field-0.0
     (c.in_err-check_feed.ensures.fault begin rows wanted) (c.in_err-check_feed.ensures.fault (bare begin) rows wanted) in
     search (rules, fault)

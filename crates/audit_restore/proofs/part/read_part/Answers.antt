@@ -1,6 +1,6 @@
 use Rattle.std.proofs.Common.{rules}
 use Rattle.flow_model.specs.Setup.{setup_view}
-use Rattle.audit_laws.specs.Fits.{records_of}
+use Rattle.audit_laws.specs.Fits.{csv_records}
 use Rattle.audit_restore.proofs.PartLemmas.{bare, first_fault}
 use Rattle.audit_restore.proofs.part.read_part.Goals as goal
 
@@ -10,7 +10,7 @@ returns-in_err-told-clause-fault c =
     let refused = c.args.refused.now in
     let rows = c.args.rows.now in
     let fault =
-    first_fault begin (setup_view c.args.setup.now) c.args.setup.now.job.dag.order refused rows (records_of c.args.bytes.now) c.in_err-told.field-0.0
+    first_fault begin (setup_view c.args.setup.now) c.args.setup.now.job.dag.order refused rows (csv_records c.args.bytes.now) c.in_err-told.field-0.0
     (c.in_err-told.ensures.fault begin refused rows) (c.in_err-told.ensures.fault (bare begin) refused rows) in
     search (rules, fault)
 

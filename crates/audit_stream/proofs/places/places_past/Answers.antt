@@ -2,7 +2,7 @@ use Rattle.std.proofs.Common.{◌∙◌, ◌≡◌, ◌∷◌, ap, List, ℕ}
 use Rattle.std.specs.List.{concat}
 use Rattle.jobs.specs.Job.{job_view}
 use Rattle.sink_journal.specs.Audit.{audit_header}
-use Rattle.audit_laws.specs.Fits.{records_of}
+use Rattle.audit_laws.specs.Fits.{csv_records}
 use Rattle.audit_stream.specs.Places.{places_together}
 use Rattle.audit_stream.specs.Sorting.{place_lists, workers_spelled}
 use Rattle.audit_stream.proofs.PlaceLemmas.{places_so}
@@ -12,7 +12,7 @@ use Rattle.audit_stream.proofs.places.places_past.Goals as goal
 pub returns : goal.returns
 returns c =
     let job = job_view c.args.job.now in
-    let records = records_of c.args.bytes.now in
+    let records = csv_records c.args.bytes.now in
     let stop = c.args.stop in
     let h = c.requires in
     if_ok (λ (places : List ℕ). places ≡ 0 ∷ concat (place_lists (workers_spelled job) stop h.0)) (λ (places : List ℕ). places ≡ places_together job records)

@@ -3,7 +3,7 @@ use Rattle.std.specs.List.{concat}
 use Rattle.jobs.specs.Job.{job_view}
 use Rattle.sink_journal.specs.Audit.{audit_header}
 use Rattle.sink_journal.specs.Records.{record_text}
-use Rattle.audit_laws.specs.Fits.{records_of}
+use Rattle.audit_laws.specs.Fits.{csv_records}
 use Rattle.audit_stream.specs.Sorting.{closed_from, group_texts, workers_spelled}
 use Rattle.audit_stream.specs.Together.{together}
 use Rattle.audit_stream.proofs.ReadingLemmas.{if_ok, put_back}
@@ -16,5 +16,5 @@ returns c =
     let stop = c.args.stop in
     let h = c.requires in
     if_ok (λ (text : List ℕ). text ≡ record_text audit_header ++ concat (group_texts (workers_spelled job) (closed_from stop h.0)))
-    (λ (text : List ℕ). records_of text ≡ together job (records_of bytes)) c.sorted_text.result
+    (λ (text : List ℕ). csv_records text ≡ together job (csv_records bytes)) c.sorted_text.result
     (λ text made. put_back job bytes text stop h.0 h.1 h.2 made) (c.sorted_text.ensures audit_header h.0 (c.of-records.ensures ∙ h.1))

@@ -4,7 +4,7 @@ use Rattle.sink_journal.specs.declared.journal.Entry.{Entry}
 use Rattle.tuple_trace.specs.declared.tuple.Item.{Item}
 use Rattle.flow_model.specs.Lanes.{lanes_out}
 use Rattle.flow_model.specs.declared.topology.Lane.{Lane}
-use Rattle.flow_model.specs.Replay.{StateView, sent}
+use Rattle.flow_model.specs.Replay.{StateView, items_sent}
 use Rattle.flow_model.specs.Setup.{setup_view}
 use Rattle.flow_model.specs.Workers.{nth_worker}
 use Rattle.flow_model.proofs.WorkerPlaces.{worker_at}
@@ -37,7 +37,7 @@ enter-requires-clause-long c =
     let number = (worker_at setup.job w c.requires.worker).0 in
     ap length c.loop-entry.invariant.replayed.lists_are
     ∙ (length-map (lanes_out setup.job who.number) (λ (lane : Lane).
-    sent setup who (begun_view setup c.args.start.now w) lane
+    items_sent setup who (begun_view setup c.args.start.now w) lane
     (take c.loop-entry.entry-index c.as_slice-entry-items.result.now))
     ∙ (ap (λ (n : ℕ). length (lanes_out setup.job n)) number ∙ sym (length-out setup.job w)))
 

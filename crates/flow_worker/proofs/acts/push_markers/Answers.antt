@@ -2,7 +2,7 @@ use Rattle.std.proofs.Common.{◌≡◌, ◌<◌, List, [], ◌∷◌, ◌++◌,
 use Rattle.flow_dag.specs.Masks.{has}
 use Rattle.tuple_trace.specs.declared.tuple.Item.{Item}
 use Rattle.tuple_trace.specs.declared.tuple.Item.TheVariants.{Mark}
-use Rattle.flow_worker.specs.Endpoints.{Appended, HasRoom, LaneOutIs}
+use Rattle.flow_worker.specs.Endpoints.{Appended, HasRoomFor, LaneOutIs}
 use Rattle.flow_worker.proofs.Pairs.{each_get, first_all, first_more, first_next}
 use Rattle.flow_worker.proofs.acts.push_markers.Goals as goal
 
@@ -23,7 +23,7 @@ push_marker-requires-clause-room g c =
     let d = c.out-item.result in
     let f : LaneOutIs → List Item = λ out. cond (has c.args.edges out.edge) (Mark c.args.due.now.request c.args.due.now.cover ∷ []) [] in
     let e = first_next (Appended f) n c.args.outs.now c.loop-out.out-items d c.loop-out.invariant in
-    let h : HasRoom 1 (get_or c.loop-out.out-items n d) = subst (HasRoom 1) (sym e) (each_get (HasRoom 1) c.args.outs.now n d c.requires.room (omega arith)) in
+    let h : HasRoomFor 1 (get_or c.loop-out.out-items n d) = subst (HasRoomFor 1) (sym e) (each_get (HasRoomFor 1) c.args.outs.now n d c.requires.room (omega arith)) in
     omega arith
 
 pub loop-out-preserved : goal.loop-out-preserved

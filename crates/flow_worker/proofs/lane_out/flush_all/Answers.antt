@@ -1,6 +1,6 @@
 use Rattle.std.proofs.Common.{◌≡◌, ◌<◌, length, set, refl, sym, subst, true, arith, add-one}
 use Rattle.std.specs.Prelude.{◌↔◌}
-use Rattle.flow_worker.specs.Endpoints.{LaneOutIs, Flushed, IsSteadyOut, all_sent}
+use Rattle.flow_worker.specs.Endpoints.{LaneOutIs, Flushed, IsSteadyOut, sent_in_all}
 use Rattle.flow_worker.proofs.Pairs.{first_more, first_all, first_next, not_moved, sum_grows, sum_moved, sum_rises, each_get}
 use Rattle.flow_worker.proofs.lane_out.flush_all.Goals as goal
 use Rattle.flow_worker.proofs.lane_out.flush_all.Goals.{then-flush, else-flush}
@@ -18,8 +18,8 @@ loop-out-preserved g c =
       grew = omega arith;
       moved = elim c.if-flush.branch [
         | then-flush w ↦ rw w.moved-is ((λ h. omega (arith, sum_rises (λ (o : LaneOutIs). length o.sent) items n d z lt (c.flush.ensures.moved.0 w.if-flush.true))), (λ h. refl))
-        | else-flush w ↦ (let still = not_moved (all_sent items) (all_sent (set items n z)) c.flush.result same (sum_moved (λ (o : LaneOutIs). length o.sent) items n d z c.flush.result lt c.flush.ensures.moved) w.if-flush.false in
-            rw w.moved-is (subst (λ m. c.loop-out.moved ≡ true ↔ (all_sent c.args.outs.now < m)) (sym still) c.loop-out.invariant.moved))
+        | else-flush w ↦ (let still = not_moved (sent_in_all items) (sent_in_all (set items n z)) c.flush.result same (sum_moved (λ (o : LaneOutIs). length o.sent) items n d z c.flush.result lt c.flush.ensures.moved) w.if-flush.false in
+            rw w.moved-is (subst (λ m. c.loop-out.moved ≡ true ↔ (sent_in_all c.args.outs.now < m)) (sym still) c.loop-out.invariant.moved))
       ];
     }
 

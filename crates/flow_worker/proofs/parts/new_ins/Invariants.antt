@@ -4,7 +4,7 @@ use Rattle.std.specs.Vec.Iter.{into_iter_items, into_iter_len}
 use Rattle.marker_align.specs.declared.held.Hand.TheVariants.{Empty}
 use Rattle.flow_model.specs.Setup.{setup_view}
 use Rattle.flow_worker.specs.Endpoints.{LaneInIs}
-use Rattle.flow_worker.specs.Pairs.{Each}
+use Rattle.flow_worker.specs.Pairs.{EachOne}
 use Rattle.flow_worker.specs.Parts.{endpoint_in}
 use Rattle.lane_core.specs.Lane.{EndpointIs}
 use Rattle.flow_worker.specs.Worker.{IsOnLane}
@@ -20,6 +20,6 @@ invariant-loop-end g l = record {
   ends : map endpoint_in l.ins.items ++ map g.L.Rx.Rx.state (into_iter_items l.end-iterator)
       ≡ map g.L.Rx.Rx.state l.fn.ends.items;
   numbers : map (λ x. (g.L.Rx.Rx.state x).number) (into_iter_items l.end-iterator) ≡ drop (length l.ins.items) l.numbers;
-  on_lanes : Each (λ (a : LaneInIs). IsOnLane (setup_view l.setup).job a.number a.edge) l.ins.items;
-  hands : Each (λ (a : LaneInIs). a.hand ≡ Empty) l.ins.items;
+  on_lanes : EachOne (λ (a : LaneInIs). IsOnLane (setup_view l.setup).job a.number a.edge) l.ins.items;
+  hands : EachOne (λ (a : LaneInIs). a.hand ≡ Empty) l.ins.items;
 }

@@ -3,7 +3,7 @@ use Rattle.std.specs.Vec.{vec_capacity}
 use Rattle.std.specs.Vec.Iter.{into_iter_items, into_iter_len}
 use Rattle.flow_model.specs.Setup.{setup_view}
 use Rattle.flow_worker.specs.Endpoints.{LaneOutIs}
-use Rattle.flow_worker.specs.Pairs.{Each}
+use Rattle.flow_worker.specs.Pairs.{EachOne}
 use Rattle.flow_worker.specs.Parts.{endpoint_out}
 use Rattle.lane_core.specs.Lane.{EndpointIs}
 use Rattle.flow_worker.specs.Worker.{IsOnLane}
@@ -19,6 +19,6 @@ invariant-loop-end g l = record {
   ends : map endpoint_out l.outs.items ++ map g.L.Tx.Tx.state (into_iter_items l.end-iterator)
       ≡ map g.L.Tx.Tx.state l.fn.ends.items;
   numbers : map (λ x. (g.L.Tx.Tx.state x).number) (into_iter_items l.end-iterator) ≡ drop (length l.outs.items) l.numbers;
-  on_lanes : Each (λ (out : LaneOutIs). IsOnLane (setup_view l.setup).job out.number out.edge) l.outs.items;
-  waiting : Each (λ (out : LaneOutIs). out.waiting ≡ []) l.outs.items;
+  on_lanes : EachOne (λ (out : LaneOutIs). IsOnLane (setup_view l.setup).job out.number out.edge) l.outs.items;
+  waiting : EachOne (λ (out : LaneOutIs). out.waiting ≡ []) l.outs.items;
 }

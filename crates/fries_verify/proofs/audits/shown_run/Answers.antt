@@ -1,7 +1,7 @@
 use Rattle.std.proofs.Common.{◌≡◌, ◌∙◌, ℕ, List, ap, length, map, subst, sym}
 use Rattle.std.proofs.lemmas.Result.{err_from_is_err_and}
-use Rattle.audit_laws.specs.Fits.{Fits, records_of}
-use Rattle.audit_laws.specs.Verdict.{IsFaultOf}
+use Rattle.audit_laws.specs.Fits.{Fits, csv_records}
+use Rattle.audit_laws.specs.Verdict.{IsFirstFault}
 use Rattle.flow_model.specs.Begin.{at_first}
 use Rattle.flow_model.specs.Record.{record_view}
 use Rattle.flow_model.specs.Run.{IsRun}
@@ -33,7 +33,7 @@ pub returns-in_err-ran-clause-fault : goal.returns-in_err-ran-clause-fault
 returns-in_err-ran-clause-fault c =
     let s = c.args.setup in
     let rows = c.args.given.rows.now in
-    let told = records_of c.args.text.now in
+    let told = csv_records c.args.text.now in
     let made = c.with_waits-setup.result in
     let code = c.in_err-ran.field-0.0 in
     let shown : List ℕ = shown_waits (length rows) s.judged.accepted told in
@@ -43,18 +43,18 @@ returns-in_err-ran-clause-fault c =
     ∙ ap (λ (a : List Request). shown_waits (length rows) a told) c.as_slice-accepted.ensures) in
     let view_is : setup_view made ≡ waiting_for shown (setup_view s) =
     c.with_waits-setup.ensures.view ∙ ap (λ w. waiting_for w (setup_view s)) waits_are in
-    let here : IsFaultOf (at_first (setup_view made)) (setup_view made) made.job.dag.order
+    let here : IsFirstFault (at_first (setup_view made)) (setup_view made) made.job.dag.order
     (map noted made.judged.refused) rows told code =
     rw c.in_ok-start.ensures at c.in_err-ran.ensures.fault in
     let seen =
-    subst (λ (v : SetupView). IsFaultOf (at_first v) v made.job.dag.order
+    subst (λ (v : SetupView). IsFirstFault (at_first v) v made.job.dag.order
     (map noted made.judged.refused) rows told code) view_is here in
     let view : SetupView = waiting_for shown (setup_view s) in
     let ordered =
-    subst (λ (j : Job). IsFaultOf (at_first view) view j.dag.order (map noted made.judged.refused)
+    subst (λ (j : Job). IsFirstFault (at_first view) view j.dag.order (map noted made.judged.refused)
     rows told code) c.with_waits-setup.ensures.job seen in
     let fault : IsFaultOn (shown_subject s rows told) code =
-    subst (λ (r : List Refused). IsFaultOf (at_first view) view s.job.dag.order (map noted r) rows
+    subst (λ (r : List Refused). IsFirstFault (at_first view) view s.job.dag.order (map noted r) rows
     told code) c.with_waits-setup.ensures.refused ordered in
     let from =
     err_from_is_err_and c.from_residual-in_err-ran.result c.from_residual-in_err-ran.ensures.1 in
@@ -64,7 +64,7 @@ pub returns-clause-audited : goal.returns-clause-audited
 returns-clause-audited c =
     let s = c.args.setup in
     let rows = c.args.given.rows.now in
-    let told = records_of c.args.text.now in
+    let told = csv_records c.args.text.now in
     let made = c.with_waits-setup.result in
     let ran = c.in_ok-ran.ran in
     let shown : List ℕ = shown_waits (length rows) s.judged.accepted told in
@@ -89,7 +89,7 @@ pub returns-clause-only : goal.returns-clause-only
 returns-clause-only c = λ other so.
     let s = c.args.setup in
     let rows = c.args.given.rows.now in
-    let told = records_of c.args.text.now in
+    let told = csv_records c.args.text.now in
     let made = c.with_waits-setup.result in
     let shown : List ℕ = shown_waits (length rows) s.judged.accepted told in
     let waits_are : c.as_slice.result.now ≡ shown =
@@ -113,7 +113,7 @@ returns-clause-run c = λ ordered job is.
     let made = c.with_waits-setup.result in
     let ran = c.in_ok-ran.ran in
     let of = c.in_ok-done_of.ensures in
-    let told = records_of c.args.text.now in
+    let told = csv_records c.args.text.now in
     let shown : List ℕ = shown_waits (length rows) s.judged.accepted told in
     let waits_are : c.as_slice.result.now ≡ shown =
     c.as_slice.ensures
@@ -158,7 +158,7 @@ returns-clause-stream c = λ ordered job is.
     let made = c.with_waits-setup.result in
     let ran = c.in_ok-ran.ran in
     let of = c.in_ok-done_of.ensures in
-    let told = records_of c.args.text.now in
+    let told = csv_records c.args.text.now in
     let shown : List ℕ = shown_waits (length rows) s.judged.accepted told in
     let waits_are : c.as_slice.result.now ≡ shown =
     c.as_slice.ensures

@@ -1,6 +1,6 @@
 use Rattle.std.proofs.Common.{None}
-use Rattle.audit_laws.specs.Fits.{records_of}
+use Rattle.audit_laws.specs.Fits.{csv_records}
 use Rattle.fries_verify.proofs.laws.live_texts_have_one_verdict.Goals as goal
 
 pub returns : goal.returns
-returns c = c.shown_texts_have_one_verdict.ensures records_of (λ bytes. None)
+returns c = c.shown_texts_have_one_verdict.ensures csv_records (λ bytes. None)

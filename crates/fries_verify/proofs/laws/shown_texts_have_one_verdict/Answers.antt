@@ -3,7 +3,7 @@ use Rattle.std.specs.FinMap.{entries}
 use Rattle.std.specs.Prelude.{All}
 use Rattle.audit_fault.specs.Noting.{IsNoted}
 use Rattle.audit_laws.specs.Delivered.{feed_of}
-use Rattle.audit_laws.specs.Fits.{HasForm, records_of}
+use Rattle.audit_laws.specs.Fits.{HasForm, csv_records}
 use Rattle.audit_laws.specs.Lines.{lines_of}
 use Rattle.audit_laws.specs.Trimmed.{trimmed}
 use Rattle.audit_laws.specs.Verdict.{AreInShape}
@@ -74,7 +74,7 @@ returns c read parts =
     (run_form begin (first_range (setup_view s)) v job.lawful linked kept plans requests rows are
     few ran.journals ran.states p.1 refused all) in
     let written : List ℕ = audit ran.setup.job refused ran.feeds ran.journals ran.states in
-    let back : records_of written ≡ read text =
+    let back : csv_records written ≡ read text =
     c.written_audits_fit.ensures refused ran ∙ sym audited.fits in
     let shaped : AreInShape v.job (read text)
     (lines_of refused (feed_of begin v rows) (map trimmed ran.journals)

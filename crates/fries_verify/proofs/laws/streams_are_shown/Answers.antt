@@ -1,6 +1,6 @@
 use Rattle.std.proofs.Common.{◌≡◌, ◌∙◌, ◌∷◌, ◌++◌, ℕ, List, [], Some, ap, length, map, refl, subst}
 use Rattle.std.proofs.Common.{sym}
-use Rattle.audit_laws.specs.Fits.{records_of}
+use Rattle.audit_laws.specs.Fits.{csv_records}
 use Rattle.audit_parts.specs.Cut.{parts_of}
 use Rattle.coordinator.specs.Feeding.{issue_rows}
 use Rattle.flow_model.specs.Run.{IsRun}
@@ -33,7 +33,7 @@ returns c ends left ran bytes live stream told_is =
     let behind = start_past_all start ends in
     let end : Records = part_records job (told_last given behind left) in
     let job_is : ran.setup.job ≡ job = ap (λ v. v.job) live.run.setup_is in
-    let fits : together job (records_of bytes) ≡ audit_header
+    let fits : together job (csv_records bytes) ≡ audit_header
     ∷ audit_records ran.setup.job refused ran.feeds ran.journals ran.states =
     ap (together job) told_is
     ∙ (c.parts_are_put_together.ensures (told_in_turn given start ends)
@@ -43,9 +43,9 @@ returns c ends left ran bytes live stream told_is =
     ∙ ap (λ (j : JobView). audit_header
     ∷ audit_records j refused ran.feeds ran.journals ran.states) (sym job_is))) in
     let written : List ℕ = audit ran.setup.job refused ran.feeds ran.journals ran.states in
-    let back : records_of written ≡ together job (records_of bytes) =
+    let back : csv_records written ≡ together job (csv_records bytes) =
     c.written_audits_fit.ensures refused ran ∙ sym fits in
-    let waits : shown_waits (length rows) s.judged.accepted (together job (records_of bytes))
+    let waits : shown_waits (length rows) s.judged.accepted (together job (csv_records bytes))
     ≡ issue_rows 0 ran.feeds =
     ap (shown_waits (length rows) s.judged.accepted) (sym back)
     ∙ live_shows (setup_view s) rows ran live refused written
@@ -56,7 +56,7 @@ returns c ends left ran bytes live stream told_is =
       refused = refused;
       rows = rows;
     }) (sym waits) in
-    let parts_are : parts_of (records_of bytes) ≡ Some (records_in_turn given start ends
+    let parts_are : parts_of (csv_records bytes) ≡ Some (records_in_turn given start ends
     ++ end ∷ []) =
     ap parts_of told_is
     ∙ ap (λ (l : List Records). Some l) (parts_found c.written_parts_are_found.ensures job given

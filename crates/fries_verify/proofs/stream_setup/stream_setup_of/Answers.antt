@@ -6,7 +6,7 @@ use Rattle.jobs.specs.Job.{job_view}
 use Rattle.jobs.specs.declared.job.Job.{Job}
 use Rattle.versions.specs.Judged.{AreAccepted, judged_within}
 use Rattle.versions.specs.declared.in_order.Judged.{Judged}
-use Rattle.stream_intake.specs.Intake.{IsMaskOf}
+use Rattle.stream_intake.specs.Intake.{IsMaskOfNodes}
 use Rattle.stream_intake.proofs.MaskLemmas.{mask_of_some, one_mask}
 use Rattle.fries_verify.proofs.stream_setup.stream_setup_of.Goals as goal
 
@@ -32,9 +32,9 @@ returns c =
     λ node is.
     c.accepted_requests_split_within.ensures mask view requests node
     (subst (λ (j : Judged). IsTrue (is_made_split j.accepted node)) judged is) in
-    let own : IsMaskOf setup.job.nodes mask =
-    subst (λ (j : Job). IsMaskOf j.nodes mask) (sym job) c.in_ok-job.ensures.splits in
-    let splits : IsMaskOf setup.job.nodes setup.splits =
+    let own : IsMaskOfNodes setup.job.nodes mask =
+    subst (λ (j : Job). IsMaskOfNodes j.nodes mask) (sym job) c.in_ok-job.ensures.splits in
+    let splits : IsMaskOfNodes setup.job.nodes setup.splits =
     mask_of_some setup.job.nodes mask setup.splits setup.judged.accepted own within
     c.in_ok-setup.ensures.exact.splits in
     let same : mask ≡ setup.splits = one_mask setup.job.nodes mask setup.splits own splits in
@@ -50,5 +50,5 @@ returns c =
         numbers = c.plans_number_all_nodes.ensures;
         mode = c.in_ok-setup.ensures.ordered;
       };
-      splits = subst (λ (j : Job). IsMaskOf j.nodes setup.splits) job splits;
+      splits = subst (λ (j : Job). IsMaskOfNodes j.nodes setup.splits) job splits;
     }

@@ -5,7 +5,7 @@ use Rattle.std.proofs.lemmas.Option.{same_Some}
 use Rattle.clap.specs.Words.{first_value, found_of}
 use Rattle.fries_words.specs.Form.{Text}
 use Rattle.fries_words.specs.Asked.{PlanAsked, RunAsked, run_asked}
-use Rattle.fries_words.specs.Words.{engine_in, is_true, name_in, resume_with, run_over, unordered_of}
+use Rattle.fries_words.specs.Words.{engine_in, is_true, value_named, resume_with, run_over, unordered_in}
 use Rattle.fries_words.specs.declared.command.EngineSize.{EngineSize}
 use Rattle.fries_words.proofs.values.resume_of.Goals as goal
 
@@ -41,10 +41,10 @@ pub returns-then-writes-clause-usage : goal.returns-then-writes-clause-usage
 returns-then-writes-clause-usage c =
     let v = first_value (found_of c.args.values.now) in
     let is = rw c.text_in.ensures at (sym c.writes.ensures ∙ c.if-writes.true) in
-    λ other. written (unordered_of v) (is_true (v (codes "exact"))) (name_in v (codes "payments")) (name_in v (codes "alerts")) (name_in v (codes "audit")) (name_in v (codes "save")) (engine_in v) is
+    λ other. written (unordered_in v) (is_true (v (codes "exact"))) (value_named v (codes "payments")) (value_named v (codes "alerts")) (value_named v (codes "audit")) (value_named v (codes "save")) (engine_in v) is
 
 pub returns-clause-asked : goal.returns-clause-asked
 returns-clause-asked c =
     let v = first_value (found_of c.args.values.now) in
     let is = rw c.text_in.ensures at (sym c.writes.ensures ∙ c.if-writes.false) in
-    rw c.in_ok-save.ensures (resumed (unordered_of v) (is_true (v (codes "exact"))) (name_in v (codes "payments")) (name_in v (codes "alerts")) (name_in v (codes "audit")) (name_in v (codes "save")) (engine_in v) (run_asked c.in_ok-run.run') is c.in_ok-run.ensures.asked)
+    rw c.in_ok-save.ensures (resumed (unordered_in v) (is_true (v (codes "exact"))) (value_named v (codes "payments")) (value_named v (codes "alerts")) (value_named v (codes "audit")) (value_named v (codes "save")) (engine_in v) (run_asked c.in_ok-run.run') is c.in_ok-run.ensures.asked)

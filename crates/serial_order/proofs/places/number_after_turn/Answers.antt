@@ -2,7 +2,7 @@ use Rattle.std.proofs.Common.{◌≡◌, ◌∙◌, ◌+◌, ◌∷◌, List, Bo
 use Rattle.std.proofs.lemmas.List.{drop_all, drop_more}
 use Rattle.sink_journal.specs.declared.journal.Entry.{Entry}
 use Rattle.flow_model.specs.Whole.{meets_row}
-use Rattle.serial_order.specs.Places.{numbered}
+use Rattle.serial_order.specs.Places.{rows_numbered}
 use Rattle.serial_order.proofs.NewLemmas.{rest_after, step-after, step-before, step-end}
 use Rattle.serial_order.proofs.places.number_after_turn.Goals as goal
 use Rattle.serial_order.proofs.places.number_after_turn.Goals.{then-turned, else-turned}
@@ -24,14 +24,14 @@ loop-entry-preserved c =
           let turned : c.loop-entry.turned ≡ true = w.if-turned.true in
           rw (w.numbers-is, w.number_met.ensures, turned)
           (step-after r e more xs
-          ∙ (ap (λ (l : List Entry). numbered (λ row. meets_row row (rest_after true r l)) r 1 xs) (sym here)
-          ∙ (ap (λ (b : Bool). numbered (λ row. meets_row row (rest_after b r (drop i journal))) r 1 xs) (sym turned) ∙ c.loop-entry.invariant)))
+          ∙ (ap (λ (l : List Entry). rows_numbered (λ row. meets_row row (rest_after true r l)) r 1 xs) (sym here)
+          ∙ (ap (λ (b : Bool). rows_numbered (λ row. meets_row row (rest_after b r (drop i journal))) r 1 xs) (sym turned) ∙ c.loop-entry.invariant)))
       | else-turned w ↦
           let turned : c.loop-entry.turned ≡ false = w.if-turned.false in
           rw (w.numbers-is, turned, c.is_turn-turned.ensures)
           (step-before r e more xs
-          ∙ (ap (λ (l : List Entry). numbered (λ row. meets_row row (rest_after false r l)) r 1 xs) (sym here)
-          ∙ (ap (λ (b : Bool). numbered (λ row. meets_row row (rest_after b r (drop i journal))) r 1 xs) (sym turned) ∙ c.loop-entry.invariant)))
+          ∙ (ap (λ (l : List Entry). rows_numbered (λ row. meets_row row (rest_after false r l)) r 1 xs) (sym here)
+          ∙ (ap (λ (b : Bool). rows_numbered (λ row. meets_row row (rest_after b r (drop i journal))) r 1 xs) (sym turned) ∙ c.loop-entry.invariant)))
     ]
 
 pub returns : goal.returns

@@ -8,7 +8,7 @@ use Rattle.flow_model.specs.Requests.{changes}
 use Rattle.flow_model.specs.Run.{Ran}
 use Rattle.flow_model.specs.Workers.{workers_in}
 use Rattle.flow_model.proofs.WorkerLemmas.{item_at, worker_with}
-use Rattle.serial_order.specs.Places.{numbered}
+use Rattle.serial_order.specs.Places.{rows_numbered}
 use Rattle.serial_order.proofs.NewLemmas.{is_new_at, new_anywhere, worker-changed, worker-unchanged}
 use Rattle.serial_order.proofs.NumberedLemmas.{none_pass, numbered-same}
 use Rattle.flow_model.specs.Whole.{is_new}
@@ -50,4 +50,4 @@ returns c =
     let ge : length workers ≤ c.loop-worker.worker = omega (arith, c.loop-worker-test.false, c.workers-worker-end.ensures.value) in
     let done : drop c.loop-worker.worker workers ≡ [] = drop_all c.loop-worker.worker workers ge in
     sym (none_pass c.args.request 1 xs)
-    ∙ (ap (λ (l : List Worker). numbered (λ row. list_any (is_new_at ran c.args.request row) l) c.args.request 1 xs) (sym done) ∙ c.loop-worker.invariant)
+    ∙ (ap (λ (l : List Worker). rows_numbered (λ row. list_any (is_new_at ran c.args.request row) l) c.args.request 1 xs) (sym done) ∙ c.loop-worker.invariant)

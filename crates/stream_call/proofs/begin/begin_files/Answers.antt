@@ -18,7 +18,7 @@ use Rattle.stream_step.specs.declared.stream.Stream.{Stream}
 use Rattle.stream_run.specs.declared.books.Tally.{Tally}
 use Rattle.stream_intake.specs.Intake.{IsKnownTo}
 use Rattle.stream_intake.specs.declared.known.Known.{Known}
-use Rattle.stream_run.specs.Standing.{Begins, Holds, IsNew}
+use Rattle.stream_run.specs.Standing.{Begins, FileHolds, IsNew}
 use Rattle.stream_call.specs.Opened.{every_of, names_of}
 use Rattle.stream_call.specs.Unopened.{NoJob, NoMemory, NoRequests, NoSource, Unwritten}
 use Rattle.stream_call.proofs.OpenedLemmas.{none-due}
@@ -54,10 +54,10 @@ returns-clause-opened g c =
     record {
       first = c.in_ok-intake.ensures.first;
       alerts =
-          subst (λ (f : Option Files). Holds f files.alerts alerts) (sym files_are)
+          subst (λ (f : Option Files). FileHolds f files.alerts alerts) (sym files_are)
           (held_before mid files.alerts files.audit alerts audit c.requires.apart);
       audit =
-          subst (λ (f : Option Files). Holds f files.audit audit) (sym files_are)
+          subst (λ (f : Option Files). FileHolds f files.audit audit) (sym files_are)
           (held (with_bytes mid files.alerts alerts) files.audit audit);
     } in
     record {

@@ -1,7 +1,7 @@
 use Rattle.std.proofs.Common.{[], refl}
 use Rattle.stream_run.proofs.GoesLemmas.{goes-same}
 use Rattle.stream_turns.specs.Taken.{at}
-use Rattle.stream_call.specs.Ended.{IsLeftBy, leaves, terms_of}
+use Rattle.stream_call.specs.Ended.{IsLeftBy, stream_leaves, terms_of}
 use Rattle.stream_call.proofs.EndedLemmas.{none-so, nothing-read, some-so}
 use Rattle.stream_call.proofs.calls.run_opened.Goals as goal
 
@@ -38,6 +38,6 @@ returns-clause-left g c =
     (some-so c.run_to_end.result
     (IsLeftBy (terms_of c.args.files.now opened)
     (at opened.stream shelf.files opened.inputs (g.T.Tap.state c.args.tap.now)) shelf.faults
-    (leaves c.run_to_end.new.inputs (g.T.Tap.state c.run_to_end.new.tap)
+    (stream_leaves c.run_to_end.new.inputs (g.T.Tap.state c.run_to_end.new.tap)
     (g.S.Shelf.state c.run_to_end.new.shelf)))
     (rw (c.names_in.ensures, c.every_of.ensures) at c.run_to_end.ensures.left))

@@ -2,7 +2,7 @@ use Rattle.std.proofs.Common.{◌∙◌, Option, refl, subst, sym}
 use Rattle.std.proofs.lemmas.Result.{IfErr-at_err, IfOk-at_ok}
 use Rattle.std.specs.Prelude.{IfNone}
 use Rattle.flow_crew.proofs.Settling.{if_none}
-use Rattle.stream_call.specs.Ended.{EndsWhole, Unopened, leaves, terms_of}
+use Rattle.stream_call.specs.Ended.{EndsWhole, Unopened, stream_leaves, terms_of}
 use Rattle.stream_call.specs.declared.fault.StreamFault.{StreamFault}
 use Rattle.stream_call.proofs.StoppedLemmas.{Begun, by-another, stopped-by}
 use Rattle.stream_call.proofs.calls.stream.Goals as goal
@@ -21,7 +21,7 @@ returns-in-Ok-clause-ran g c =
       inputs = ran.inputs;
       ended = subst (λ (o : Option StreamFault). IfNone o (EndsWhole
           (terms_of c.args.files.now opened) (Begun opened shelf (g.T.Tap.state c.args.tap.now))
-          (leaves ran.inputs (g.T.Tap.state c.run_opened-ran.new.tap) new))) none.0
+          (stream_leaves ran.inputs (g.T.Tap.state c.run_opened-ran.new.tap) new))) none.0
           c.run_opened-ran.ensures.whole;
       refused_are = c.outcome_of.ensures.refused;
       prints = rw (sym c.run_opened-ran.ensures.rows) none.1;

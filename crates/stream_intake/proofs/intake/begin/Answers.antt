@@ -6,7 +6,7 @@ use Rattle.versions.specs.Judged.{AreAccepted}
 use Rattle.versions.specs.declared.in_order.Judged.{Judged}
 use Rattle.versions.specs.declared.request.Request.{Request}
 use Rattle.flow_model.specs.declared.setup.Setup.{Setup}
-use Rattle.stream_intake.specs.Intake.{IsKnownTo, IsMaskOf, accepted_after, refused_after}
+use Rattle.stream_intake.specs.Intake.{IsKnownTo, IsMaskOfNodes, accepted_after, refused_after}
 use Rattle.flow_model.specs.Planned.{may_become_split, splits_at}
 use Rattle.stream_intake.proofs.IntakeLemmas.{first_accepted, first_refused, judged_alike}
 use Rattle.stream_intake.proofs.IntakeLemmas.{judged_none, none_known}
@@ -27,7 +27,7 @@ learn-requires-clause-known c =
 pub returns-clause-splits : goal.returns-clause-splits
 returns-clause-splits c =
     let first = c.in_ok-stream.stream in
-    subst (λ (s : Setup). IsMaskOf c.args.job.nodes s.splits) (sym c.in_ok-stream-2.ensures.setup)
+    subst (λ (s : Setup). IsMaskOfNodes c.args.job.nodes s.splits) (sym c.in_ok-stream-2.ensures.setup)
     (mask_of_none c.args.job.nodes first.setup.splits
     (subst (λ (l : List Request). (node : ℕ)
     → Has first.setup.splits node ↔ IsTrue

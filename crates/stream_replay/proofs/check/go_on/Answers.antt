@@ -1,5 +1,5 @@
 use Rattle.std.proofs.Common.{◌∙◌, ◌++◌, ◌∷◌, subst, sym}
-use Rattle.stream_replay.specs.InParts.{Given, IsPartRun}
+use Rattle.stream_replay.specs.InParts.{Given, IsPartReplay}
 use Rattle.stream_replay.specs.declared.fault.PartFault.{PartFault}
 use Rattle.stream_replay.specs.inner.Progress.{IsLooseFor, body_of, start_in}
 use Rattle.stream_replay.proofs.PassLemmas.{loose_at, passed_more, passes_given}
@@ -22,5 +22,5 @@ returns-in-Err-clause-loose c given parts later last was same =
     c.args.number same c.in-Err.fault
     (λ left is.
     c.in-Err.ensures.found left
-    (subst (λ (g : Given). IsPartRun g (start_in c.args.progress) (body_of c.args.part.now) left)
+    (subst (λ (g : Given). IsPartReplay g (start_in c.args.progress) (body_of c.args.part.now) left)
     (sym was.given_is) is)))

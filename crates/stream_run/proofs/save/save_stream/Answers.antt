@@ -1,6 +1,6 @@
 use Rattle.std.proofs.Common.{◌≡◌, ◌∙◌, [], ap, refl, subst}
 use Rattle.stream_step.specs.declared.stream.Stream.{Stream}
-use Rattle.stream_run.specs.Standing.{Holds}
+use Rattle.stream_run.specs.Standing.{FileHolds}
 use Rattle.stream_run.proofs.GoesLemmas.{goes-save, goes_booked-save, stands-then}
 use Rattle.stream_run.proofs.SavedLemmas.{holds_stored}
 use Rattle.stream_run.proofs.save.save_stream.Goals as goal
@@ -27,7 +27,7 @@ saved-requires-clause-saved g c =
       c.end.ensures.alerts,
       c.end.ensures.audit,
     )
-    (subst (λ text. Holds (g.S.Shelf.state c.store_save.new.shelf).files c.args.call.now.names.save
+    (subst (λ text. FileHolds (g.S.Shelf.state c.store_save.new.shelf).files c.args.call.now.names.save
     text) (c.as_slice.ensures ∙ c.in_ok-stream.ensures.text) held)
 
 pub returns-clause-goes : goal.returns-clause-goes
@@ -41,5 +41,5 @@ pub returns-clause-saved : goal.returns-clause-saved
 returns-clause-saved g c =
     let held = holds_stored _ _ c.args.call.now.names.save _ c.in_ok-store_save.ensures.whole in
     rw c.in_ok-stream.ensures.stream
-    (subst (λ text. Holds (g.S.Shelf.state c.store_save.new.shelf).files c.args.call.now.names.save
+    (subst (λ text. FileHolds (g.S.Shelf.state c.store_save.new.shelf).files c.args.call.now.names.save
     text) (c.as_slice.ensures ∙ c.in_ok-stream.ensures.text) held)

@@ -82,9 +82,9 @@ struct AfterPass<'a> {
 }
 
 impl<'a> Asks for AfterPass<'a> {
-    ghost use Rattle.live_control.specs.Asking.{memory_state_of};
+    ghost use Rattle.live_control.specs.Asking.{asking_state};
 
-    ghost state = { λ asks. memory_state_of asks.asks };
+    ghost state = { λ asks. asking_state asks.asks };
 
     fn next(&mut self) -> Result<Option<u8>, Failed> {
         if !self.asked {

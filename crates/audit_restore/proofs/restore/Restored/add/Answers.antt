@@ -3,7 +3,7 @@ use Rattle.std.specs.Prelude.{slice_set}
 use Rattle.sink_journal.specs.declared.journal.Entry.{Entry}
 use Rattle.tuple_trace.specs.declared.tuple.Item.{Item}
 use Rattle.flow_model.specs.Lanes.{lanes_out}
-use Rattle.flow_model.specs.Replay.{sent}
+use Rattle.flow_model.specs.Replay.{items_sent}
 use Rattle.flow_model.specs.Run.{final_counts}
 use Rattle.flow_model.specs.Setup.{setup_view}
 use Rattle.flow_model.specs.Workers.{nth_worker}
@@ -20,7 +20,7 @@ returns c =
     let who = nth_worker setup.job w in
     let made : List Entry = c.in_ok-journal.journal in
     let made_is = c.in_ok-journal.ensures.journal in
-    let on : Lane → List Item = λ lane. sent setup who (begun_view setup begin w) lane made in
+    let on : Lane → List Item = λ lane. items_sent setup who (begun_view setup begin w) lane made in
     let number = (worker_at setup.job w c.requires.worker).0 in
     let sends = c.send.ensures on (c.in_ok-state.ensures.sent ∙ ap (λ v. map on (lanes_out setup.job v)) number) in
     record {
@@ -30,6 +30,6 @@ returns c =
           ∙ ap (slice_set c.args.self.now.states w)
           (c.in_ok-state.ensures.state ∙ ap (λ (l : List Entry). final_counts setup begin who (begun_counts begin w) l) made_is);
       long = sends.long ∙ c.in_ok-journal.ensures.left.long;
-      out = λ n lane g e. sends.out n lane g e ∙ ap (λ (l : List Entry). sent setup who (begun_view setup begin w) lane l) made_is;
+      out = λ n lane g e. sends.out n lane g e ∙ ap (λ (l : List Entry). items_sent setup who (begun_view setup begin w) lane l) made_is;
       others = λ n lane g ne. sends.others n lane g ne ∙ c.in_ok-journal.ensures.left.left n;
     }

@@ -10,7 +10,7 @@ use Rattle.flow_model.specs.declared.topology.Topology.{Topology}
 use Rattle.flow_model.proofs.SizeLemmas.{lanes-few}
 use Rattle.lane_core.specs.Lane.{EndpointIs}
 use Rattle.flow_crew.specs.Sides.{HoldAtMost, SideIs}
-use Rattle.flow_crew.specs.Sorted.{AreMarked, changed, more_in, with_out}
+use Rattle.flow_crew.specs.Sorted.{AreAllMarked, changed_at, more_in, with_out}
 use Rattle.flow_crew.proofs.Holding.{hold_in, hold_none, hold_sent}
 use Rattle.flow_crew.proofs.Sorting.{lane_sender}
 use Rattle.flow_crew.proofs.Making.{mark_lane, marked_feeder, marked_first, marked_match, marked_worker}
@@ -70,12 +70,12 @@ loop-number-preserved g c =
     with_items_is (with_items was middle) last (c.add_in.auto.workers ∙ (ap (λ (xs : List SideIs). length xs) there ∙ long)) in
     let marked = mark_lane job graph i c.loop-number.invariant.sorted.0 lane T R was.items old c.lane-lane.ensures.lane c.in_ok-tx.ensures.tx c.in_ok-tx.ensures.rx c.in_ok-tx.ensures.lane c.loop-number.invariant.sorted.1 in
     let m : middle ≡ with_out lane.sender (T ∷ []) was.items = c.in_ok-add_out.ensures.workers ∙ ap (with_out lane.sender (T ∷ [])) c.deref_mut.ensures.value in
-    let n : last ≡ changed (more_in (R ∷ [])) lane.receiver middle = c.in_ok-add_in.ensures ∙ ap (changed (more_in (R ∷ [])) lane.receiver) there in
-    let all : (with_items (with_items was middle) last).items ≡ changed (more_in (R ∷ [])) lane.receiver (with_out lane.sender (T ∷ []) was.items) = second ∙ (n ∙ ap (changed (more_in (R ∷ [])) lane.receiver) m) in record {
+    let n : last ≡ changed_at (more_in (R ∷ [])) lane.receiver middle = c.in_ok-add_in.ensures ∙ ap (changed_at (more_in (R ∷ [])) lane.receiver) there in
+    let all : (with_items (with_items was middle) last).items ≡ changed_at (more_in (R ∷ [])) lane.receiver (with_out lane.sender (T ∷ []) was.items) = second ∙ (n ∙ ap (changed_at (more_in (R ∷ [])) lane.receiver) m) in record {
       sorted = (
         marked.0,
-        subst (λ (xs : List SideIs). AreMarked job graph (i + 1) marked.0 xs new) (sym all)
-            (subst (AreMarked job graph (i + 1) marked.0 (changed (more_in (R ∷ [])) lane.receiver (with_out lane.sender (T ∷ []) was.items))) (sym c.in_ok-add_out.ensures.feeder) marked.1),
+        subst (λ (xs : List SideIs). AreAllMarked job graph (i + 1) marked.0 xs new) (sym all)
+            (subst (AreAllMarked job graph (i + 1) marked.0 (changed_at (more_in (R ∷ [])) lane.receiver (with_out lane.sender (T ∷ []) was.items))) (sym c.in_ok-add_out.ensures.feeder) marked.1),
       );
       capacity = c.in_ok-add_out.ensures.capacity c.args.cap c.in_ok-tx.ensures.holds c.loop-number.invariant.capacity;
       hold =

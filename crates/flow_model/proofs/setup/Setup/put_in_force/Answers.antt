@@ -3,7 +3,7 @@ use Rattle.std.proofs.lemmas.Option.{get_or_from_slice_get}
 use Rattle.versions.specs.declared.request.Change.{Change}
 use Rattle.versions.specs.declared.request.Request.{Request}
 use Rattle.flow_model.specs.SetupView.{SetupView}
-use Rattle.flow_model.specs.Requests.{change_among, change_in, change_of, request_at}
+use Rattle.flow_model.specs.Requests.{change_among, change_asked, change_by, request_at}
 use Rattle.flow_model.specs.Setup.{setup_view}
 use Rattle.flow_model.proofs.ChangeLemmas.{change-carry}
 use Rattle.flow_model.specs.InForce.{counts_with}
@@ -11,9 +11,9 @@ use Rattle.flow_model.proofs.setup.Setup.put_in_force.Goals as goal
 
 -- the change that was found is the request's of the node
 found : (setup : SetupView) (request node : ℕ) (its : Request) (changes : List Change) (change it : Change) (place : ℕ) → Some its ≡ request_at setup request → changes ≡ its.changes
-    → slice_get changes place ≡ Some change → change_among changes node ≡ Some change → it ≡ get_or changes place it → change_of setup request node ≡ Some it
+    → slice_get changes place ≡ Some change → change_among changes node ≡ Some change → it ≡ get_or changes place it → change_by setup request node ≡ Some it
 found setup request node its changes change it place r same at among is =
-    ap (λ (o : Option Request). change_in o node) (sym r) ∙ (ap (λ cs. change_among cs node) (sym same) ∙ (among ∙ ap Some (sym (is ∙ get_or_from_slice_get changes place change it at))))
+    ap (λ (o : Option Request). change_asked o node) (sym r) ∙ (ap (λ cs. change_among cs node) (sym same) ∙ (among ∙ ap Some (sym (is ∙ get_or_from_slice_get changes place change it at))))
 
 pub carry-requires : goal.carry-requires
 carry-requires c =

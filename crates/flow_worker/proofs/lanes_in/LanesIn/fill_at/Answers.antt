@@ -1,6 +1,6 @@
 use Rattle.std.proofs.Common.{◌∙◌, ◌<◌, ◌≤◌, List, length, sym, ap, subst, true, false, arith}
 use Rattle.flow_worker.specs.Endpoints.{LaneInIs}
-use Rattle.flow_worker.specs.Masks.{issued_of, is_empty}
+use Rattle.flow_worker.specs.Masks.{issued_of, is_empty_hand}
 use Rattle.flow_worker.proofs.InMasks.{other_masks, same_masks, took_at, tuple_masks, was_empty}
 use Rattle.flow_worker.proofs.lanes_in.LanesIn.fill_at.Goals as goal
 
@@ -24,7 +24,7 @@ pub invariant_of-self-in_default : goal.invariant_of-self-in_default
 invariant_of-self-in_default g c =
     let l : c.args.place < length c.self.inside.lanes.items = subst (λ (xs : List LaneInIs). c.args.place < length xs) (sym c.self.view_is) c.requires.within in
     other_masks c.self.inside.empty c.self.inside.tuples c.with_place-self-inside.result c.self.inside.newest c.args.place c.self.inside.lanes.items c.fill.new.self _ l (c.fill.ensures.holds c.if-not-fill.false) (sym c.in_default.is ∙ (c.issued_in.ensures ∙ ap issued_of c.hand.ensures))
-    (sym (ap (λ (a : LaneInIs). is_empty a.hand) c.index_mut-lane.ensures.value) ∙ was_empty c.index_mut-lane.result.now c.fill.new.self c.fill.ensures.filled (c.fill.ensures.moved.0 c.if-not-fill.false)) c.with_place-self-inside.ensures c.self.invariant
+    (sym (ap (λ (a : LaneInIs). is_empty_hand a.hand) c.index_mut-lane.ensures.value) ∙ was_empty c.index_mut-lane.result.now c.fill.new.self c.fill.ensures.filled (c.fill.ensures.moved.0 c.if-not-fill.false)) c.with_place-self-inside.ensures c.self.invariant
 
 pub returns-then-not-fill-clause-moved : goal.returns-then-not-fill-clause-moved
 returns-then-not-fill-clause-moved g c =

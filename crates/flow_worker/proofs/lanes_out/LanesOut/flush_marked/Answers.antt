@@ -1,8 +1,8 @@
 use Rattle.std.proofs.Common.{◌≡◌, ◌<◌, ◌≤◌, ℕ, List, Option, Some, length, refl, sym, subst, true, arith}
 use Rattle.std.specs.Prelude.{◌↔◌}
-use Rattle.flow_worker.specs.Endpoints.{Flushed, IsSteadyOut, LaneOutIs, all_sent}
+use Rattle.flow_worker.specs.Endpoints.{Flushed, IsSteadyOut, LaneOutIs, sent_in_all}
 use Rattle.flow_worker.specs.Masks.{IsTakenFrom}
-use Rattle.flow_worker.specs.Pairs.{Each}
+use Rattle.flow_worker.specs.Pairs.{EachOne}
 use Rattle.flow_worker.proofs.HandMasks.{IsLeft, first_left, none_left, skip_left, step_left}
 use Rattle.flow_worker.proofs.OutMasks.{first_flushed, flushed_grows, steady_set}
 use Rattle.flow_worker.proofs.Pairs.{not_moved}
@@ -35,7 +35,7 @@ loop-place-preserved-then-flush_at g c =
     let w : place < length c.args.self.now = let e = c.loop-place.invariant.left.long in omega (arith, l, e) in
     record {
       left = subst (λ (xs : List LaneOutIs). IsLeft Flushed after c.args.self.now xs) (sym f.set_is) (step_left Flushed place before after c.args.self.now c.loop-place.self f.at taken w f.flushed c.loop-place.invariant.left);
-      steady = subst (Each IsSteadyOut) (sym f.set_is) (steady_set c.loop-place.self place f.at l f.flushed c.loop-place.invariant.steady);
+      steady = subst (EachOne IsSteadyOut) (sym f.set_is) (steady_set c.loop-place.self place f.at l f.flushed c.loop-place.invariant.steady);
       grew = omega (arith, grew, more);
       moved = ((λ e. omega (arith, grew, more)), (λ m. refl));
     }
@@ -53,12 +53,12 @@ loop-place-preserved g c =
           let l : place < length c.loop-place.self = let a = w.if-place-len.true in let b = c.len-in-Some.ensures in omega (arith, a, b) in
           let m : place < length c.args.self.now = let e = c.loop-place.invariant.left.long in omega (arith, l, e) in
           let more = flushed_grows place c.loop-place.self w.flush_at.new.self f l in
-          let same = not_moved (all_sent c.loop-place.self) (all_sent w.flush_at.new.self) w.flush_at.result more w.flush_at.ensures.moved w.if-flush_at.false in
+          let same = not_moved (sent_in_all c.loop-place.self) (sent_in_all w.flush_at.new.self) w.flush_at.result more w.flush_at.ensures.moved w.if-flush_at.false in
           rw w.self-is (record {
             left = subst (λ (xs : List LaneOutIs). IsLeft Flushed after c.args.self.now xs) (sym f.set_is) (step_left Flushed place before after c.args.self.now c.loop-place.self f.at taken m f.flushed c.loop-place.invariant.left);
-            steady = subst (Each IsSteadyOut) (sym f.set_is) (steady_set c.loop-place.self place f.at l f.flushed c.loop-place.invariant.steady);
+            steady = subst (EachOne IsSteadyOut) (sym f.set_is) (steady_set c.loop-place.self place f.at l f.flushed c.loop-place.invariant.steady);
             grew = omega (arith, grew, more);
-            moved = subst (λ n. c.loop-place.moved ≡ true ↔ (all_sent c.args.self.now < n)) (sym same) c.loop-place.invariant.moved;
+            moved = subst (λ n. c.loop-place.moved ≡ true ↔ (sent_in_all c.args.self.now < n)) (sym same) c.loop-place.invariant.moved;
           }))
       | else-place-len-via-else-place-len w ↦ (
           let far : length c.args.self.now ≤ place = let a = w.if-place-len.false in let b = c.len-in-Some.ensures in let e = c.loop-place.invariant.left.long in omega (arith, a, b, e) in

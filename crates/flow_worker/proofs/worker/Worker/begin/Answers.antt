@@ -9,7 +9,7 @@ use Rattle.flow_model.specs.declared.topology.Lane.{Lane}
 use Rattle.flow_model.specs.declared.topology.WorkerAt.{WorkerAt}
 use Rattle.flow_model.proofs.FewLanes.{few_lanes}
 use Rattle.flow_model.proofs.WorkerPlaces.{get-nth_worker}
-use Rattle.flow_worker.specs.Pairs.{Each}
+use Rattle.flow_worker.specs.Pairs.{EachOne}
 use Rattle.flow_worker.specs.Parts.{endpoint_in, endpoint_out}
 use Rattle.lane_core.specs.Lane.{EndpointIs}
 use Rattle.flow_model.specs.NewEndpoint.{IsNewEndpoint}
@@ -25,7 +25,7 @@ new_ins-ins-requires-clause-numbers g c κs up =
 pub new_ins-ins-requires-clause-there : goal.new_ins-ins-requires-clause-there
 new_ins-ins-requires-clause-there g c κs up =
     let job = (setup_view c.args.setup.now).job in
-    subst (Each (λ (n : ℕ). n < length (lanes job))) (sym c.lanes_in.ensures) (lanes_there (λ (lane : Lane). lane.receiver == c.args.beginning.number) job)
+    subst (EachOne (λ (n : ℕ). n < length (lanes job))) (sym c.lanes_in.ensures) (lanes_there (λ (lane : Lane). lane.receiver == c.args.beginning.number) job)
 
 pub new_outs-outs-requires-clause-numbers : goal.new_outs-outs-requires-clause-numbers
 new_outs-outs-requires-clause-numbers g c κs up =
@@ -35,7 +35,7 @@ new_outs-outs-requires-clause-numbers g c κs up =
 pub new_outs-outs-requires-clause-there : goal.new_outs-outs-requires-clause-there
 new_outs-outs-requires-clause-there g c κs up =
     let job = (setup_view c.args.setup.now).job in
-    subst (Each (λ (n : ℕ). n < length (lanes job))) (sym c.lanes_out.ensures) (lanes_there (λ (lane : Lane). is_sender c.args.beginning.number lane.sender) job)
+    subst (EachOne (λ (n : ℕ). n < length (lanes job))) (sym c.lanes_out.ensures) (lanes_there (λ (lane : Lane). is_sender c.args.beginning.number lane.sender) job)
 
 pub new-requires-2-clause-few : goal.new-requires-2-clause-few
 new-requires-2-clause-few g c κs up =
@@ -89,6 +89,6 @@ returns-clause-law g c begin s =
           (subst (λ (r : ℕ). IsDueAfter setup who.node (edges_in job c.args.beginning.number) r c.due_after-due.result) s.turned_is c.due_after-due.ensures);
       turned = c.requires.owner;
       closed = refl;
-      taken = new_hands job c.requires.ends.graph ins (subst (Each (IsNewEndpoint job c.requires.ends.graph)) (sym c.new_ins-ins.ensures.ends) c.requires.ends.new_in) c.new_ins-ins.ensures.hands;
-      sent = new_waiting job c.requires.ends.graph outs (subst (Each (IsNewEndpoint job c.requires.ends.graph)) (sym c.new_outs-outs.ensures.ends) c.requires.ends.new_out) c.new_outs-outs.ensures.waiting;
+      taken = new_hands job c.requires.ends.graph ins (subst (EachOne (IsNewEndpoint job c.requires.ends.graph)) (sym c.new_ins-ins.ensures.ends) c.requires.ends.new_in) c.new_ins-ins.ensures.hands;
+      sent = new_waiting job c.requires.ends.graph outs (subst (EachOne (IsNewEndpoint job c.requires.ends.graph)) (sym c.new_outs-outs.ensures.ends) c.requires.ends.new_out) c.new_outs-outs.ensures.waiting;
     }))

@@ -22,10 +22,10 @@ use Rattle.flow_model.specs.declared.in_force.InForce.TheVariants.{Own, Changed}
 use Rattle.flow_model.specs.declared.topology.WorkerAt.{WorkerAt}
 use Rattle.flow_model.specs.declared.worker_state.WorkerState.{WorkerState}
 use Rattle.flow_model.proofs.WorkerLemmas.{worker_with}
-use Rattle.flow_worker.specs.Endpoints.{Appended, Gains, HasRoom, LaneInIs, LaneOutIs, Reserved, SameButMemory}
-use Rattle.flow_worker.specs.Pairs.{Each, EachPair}
+use Rattle.flow_worker.specs.Endpoints.{Appended, Gains, HasRoomFor, LaneInIs, LaneOutIs, Reserved, SameButMemory}
+use Rattle.flow_worker.specs.Pairs.{EachOne, EachPair}
 use Rattle.flow_worker.specs.Steps.{HasTuple, items_at}
-use Rattle.flow_worker.specs.Worker.{IsPlaced, IsSenderAt, WorkerIs, numbers_out}
+use Rattle.flow_worker.specs.Worker.{IsPlaced, IsSenderAt, WorkerIs, lane_numbers_out}
 use Rattle.flow_worker.proofs.Gaining.{appended_by, gains, room}
 use Rattle.flow_worker.proofs.Pairs.{each_same}
 use Rattle.flow_worker.proofs.PlaceLemmas.{placed_below}
@@ -34,18 +34,18 @@ use Rattle.flow_worker.proofs.Taking.{length_laid, same_tuple}
 use Rattle.flow_worker.proofs.worker.Worker.process.Goals as goal
 
 -- room for as many is room for fewer
-fewer : (n m : ℕ) (xs : List LaneOutIs) → m ≤ n → Each (HasRoom n) xs → Each (HasRoom m) xs
+fewer : (n m : ℕ) (xs : List LaneOutIs) → m ≤ n → EachOne (HasRoomFor n) xs → EachOne (HasRoomFor m) xs
 fewer n m [] l e = tt
 fewer n m (x ∷ xs) l e = ((let r : length x.waiting + n ≤ x.memory = e.0 in omega (arith, r)), fewer n m xs l e.1)
 
 -- the sender stays where it is while its lanes take memory
-numbers_kept : (n : ℕ) (xs ys : List LaneOutIs) → EachPair (Reserved n) xs ys → numbers_out ys ≡ numbers_out xs
+numbers_kept : (n : ℕ) (xs ys : List LaneOutIs) → EachPair (Reserved n) xs ys → lane_numbers_out ys ≡ lane_numbers_out xs
 numbers_kept n [] [] p = refl
 numbers_kept n [] (y ∷ ys) p = absurd p
 numbers_kept n (x ∷ xs) [] p = absurd p
 numbers_kept n (x ∷ xs) (y ∷ ys) p = rw (ap (λ (o : LaneOutIs). o.number) p.0.0, numbers_kept n xs ys p.1) refl
 
-sender : (setup : SetupView) (who : WorkerOf) (w : WorkerIs) → IsPlaced setup who w → IsSenderAt setup.job w.node who (numbers_out w.outs)
+sender : (setup : SetupView) (who : WorkerOf) (w : WorkerIs) → IsPlaced setup who w → IsSenderAt setup.job w.node who (lane_numbers_out w.outs)
 sender setup who w p =
     let n = (worker_with setup.job w.number who p.who_is).0 in
     record {
@@ -138,8 +138,8 @@ enqueue_outputs-requires-clause-who g c κs up =
     let p : EachPair (Reserved n) was now = ok_fact c.reserve-2.result (sym c.is_err-2.ensures.value ∙ c.if-is_err-2.false) c.reserve-2.ensures.ok in
     let job = (setup_view c.args.setup.now).job in
     let who = c.requires.placed.0 in
-    let is : IsSenderAt job c.self.inside.node who (numbers_out was) =
-    subst (λ (w : WorkerIs). IsSenderAt job w.node who (numbers_out w.outs)) (sym c.self.view_is) (sender (setup_view c.args.setup.now) who c.args.self.now c.requires.placed.1) in
+    let is : IsSenderAt job c.self.inside.node who (lane_numbers_out was) =
+    subst (λ (w : WorkerIs). IsSenderAt job w.node who (lane_numbers_out w.outs)) (sym c.self.view_is) (sender (setup_view c.args.setup.now) who c.args.self.now c.requires.placed.1) in
     (who, subst (λ ns. IsSenderAt job c.self.inside.node who ns) (sym (numbers_kept n was now p)) is)
 
 pub enqueue_outputs-requires-clause-room : goal.enqueue_outputs-requires-clause-room
@@ -203,8 +203,8 @@ returns-clause-ok g c who placed =
     made_is _ _ _ o c.self.invariant.2 ∙ ap (λ (v : StateView). made_of setup who v c.tuple_at-tuple.result.now) view_is ∙ ap (made_of setup who view) same in
     let came = ok_fact c.process_by.result ok c.process_by.ensures.state who stands a.number in
     let counts = ap (λ (v : StateView). v.counts) came ∙ ap (λ (v : StateView). (after setup who v (Met a.number c.tuple_at-tuple.result.now)).counts) view_is ∙ ap (λ (u : Tuple). (after setup who view (Met a.number u)).counts) same in
-    let is : IsSenderAt job c.self.inside.node who (numbers_out was) = subst (λ (w : WorkerIs). IsSenderAt job w.node who (numbers_out w.outs)) (sym c.self.view_is) (sender setup who c.args.self.now placed) in
-    let is' : IsSenderAt job c.self.inside.node who (numbers_out now) = subst (λ ns. IsSenderAt job c.self.inside.node who ns) (sym (numbers_kept n was now p)) is in
+    let is : IsSenderAt job c.self.inside.node who (lane_numbers_out was) = subst (λ (w : WorkerIs). IsSenderAt job w.node who (lane_numbers_out w.outs)) (sym c.self.view_is) (sender setup who c.args.self.now placed) in
+    let is' : IsSenderAt job c.self.inside.node who (lane_numbers_out now) = subst (λ ns. IsSenderAt job c.self.inside.node who ns) (sym (numbers_kept n was now p)) is in
     let f : LaneOutIs → List Item = λ out. items_at job (map (put_out job who) c.process_by.new.outs) out.number in
     let h : LaneOutIs → List Item = λ out. items_at job (puts setup who view (Met a.number t)) out.number in
     let d : EachPair (Appended f) now last = c.enqueue_outputs.ensures.outs who is' in

@@ -10,7 +10,7 @@ use Rattle.flow_model.specs.Workers.{nth_worker, workers_in}
 use Rattle.flow_model.specs.declared.worker_state.WorkerState.{WorkerState}
 use Rattle.flow_worker.specs.Endpoints.{Appended, LaneOutIs, Reserved}
 use Rattle.flow_worker.specs.Steps.{marker_on}
-use Rattle.flow_worker.specs.Pairs.{Each, EachPair}
+use Rattle.flow_worker.specs.Pairs.{EachOne, EachPair}
 use Rattle.flow_worker.specs.Worker.{WorkerIs}
 use Rattle.flow_worker.proofs.Pairs.{each_same, pairs_each}
 use Rattle.flow_worker.proofs.Gaining.{appended_by, gains, room}
@@ -38,8 +38,8 @@ pub push_markers-requires-clause-edges : goal.push_markers-requires-clause-edges
 push_markers-requires-clause-edges g c κs up =
     let was = c.self.inside.outs in
     let now = c.reserve-2.new.self in
-    let small : Each (λ (o : LaneOutIs). o.edge < 128) was =
-    subst (λ (w : WorkerIs). Each (λ (o : LaneOutIs). o.edge < 128) w.outs) (sym c.self.view_is)
+    let small : EachOne (λ (o : LaneOutIs). o.edge < 128) was =
+    subst (λ (w : WorkerIs). EachOne (λ (o : LaneOutIs). o.edge < 128) w.outs) (sym c.self.view_is)
     (outs_small (setup_view c.args.setup.now) c.requires.placed.1.graph c.args.self.now.node c.args.self.now.outs c.args.setup.now.job.lawful c.requires.placed.1.ends_out) in
     let p : EachPair (Reserved 1) was now = ok_fact c.reserve-2.result (sym c.is_err-2.ensures.value ∙ c.if-is_err-2.false) c.reserve-2.ensures.ok in
     (pairs_each (Reserved 1) (λ (o : LaneOutIs). o.edge < 128) (λ (o : LaneOutIs). o.edge < 128) was now (λ a b r l. subst (λ n. n < 128) (sym (ap (λ (o : LaneOutIs). o.edge) r.0)) l) p small)

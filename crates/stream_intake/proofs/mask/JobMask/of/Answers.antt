@@ -7,7 +7,7 @@ use Rattle.versions.specs.Judged.{AreAccepted}
 use Rattle.versions.specs.declared.in_order.Judged.{Judged}
 use Rattle.versions.specs.declared.request.Request.{Request}
 use Rattle.flow_model.specs.Planned.{may_become_split, splits_at}
-use Rattle.stream_intake.specs.Intake.{IsMaskOf}
+use Rattle.stream_intake.specs.Intake.{IsMaskOfNodes}
 use Rattle.stream_intake.proofs.IntakeLemmas.{judged_none}
 use Rattle.stream_intake.proofs.MaskLemmas.{mask_of_none}
 use Rattle.stream_intake.proofs.mask.JobMask.of.Goals as goal
@@ -22,7 +22,7 @@ returns-clause-splits c =
     let setup = c.in_ok-job.field-0 in
     let none : setup.judged.accepted ≡ [] =
     ap (λ (j : Judged). j.accepted) c.in_ok-job.ensures.judged ∙ c.none.ensures.accepted in
-    subst (λ (j : Job). IsMaskOf j.nodes setup.splits) c.in_ok-job.ensures.job
+    subst (λ (j : Job). IsMaskOfNodes j.nodes setup.splits) c.in_ok-job.ensures.job
     (mask_of_none setup.job.nodes setup.splits
     (subst (λ (l : List Request). (node : ℕ)
     → Has setup.splits node ↔ IsTrue

@@ -3,7 +3,7 @@ use Rattle.std.proofs.lemmas.List.{drop-map, take_rest}
 use Rattle.sink_journal.specs.Audit.{audit_header}
 use Rattle.versions.specs.declared.in_order.Refused.{Refused}
 use Rattle.audit_fault.specs.declared.fault.AuditFault.TheVariants as audit
-use Rattle.audit_laws.specs.Fits.{records_of}
+use Rattle.audit_laws.specs.Fits.{csv_records}
 use Rattle.flow_model.specs.Record.{record_view}
 use Rattle.flow_model.specs.Setup.{setup_view}
 use Rattle.flow_model.proofs.PlannedLemmas.{has_covers}
@@ -47,8 +47,8 @@ returns-clause-part c =
     later_noted whole self.told c.as_slice-2.result.now c.in_ok-later.later
     c.in_ok-setup.setup.judged.refused c.as_slice-2.ensures c.in_ok-later.ensures
     c.in_ok-setup.ensures.refused in
-    let read : records_of c.as_slice-3.result.now ≡ audit_header ∷ body =
-    ap records_of c.as_slice-3.ensures ∙ c.requires.counted.read in (
+    let read : csv_records c.as_slice-3.result.now ≡ audit_header ∷ body =
+    ap csv_records c.as_slice-3.ensures ∙ c.requires.counted.read in (
       ran,
       last_of_run given (start_in self) body (setup_view c.in_ok-setup.setup)
           (map noted c.in_ok-setup.setup.judged.refused) c.as_slice-3.result.now view_is
@@ -70,8 +70,8 @@ returns-in_err-ran-clause-found c left is =
     later_noted whole self.told c.as_slice-2.result.now c.in_ok-later.later
     c.in_ok-setup.setup.judged.refused c.as_slice-2.ensures c.in_ok-later.ensures
     c.in_ok-setup.ensures.refused in
-    let read : records_of c.as_slice-3.result.now ≡ audit_header ∷ body =
-    ap records_of c.as_slice-3.ensures ∙ c.requires.counted.read in
+    let read : csv_records c.as_slice-3.result.now ≡ audit_header ∷ body =
+    ap csv_records c.as_slice-3.ensures ∙ c.requires.counted.read in
     let memory : c.in_err-ran.field-0.0 ≡ audit.NoMemory =
     c.in_err-ran.ensures.found left
     (run_of_last given (start_in self) body (setup_view c.in_ok-setup.setup)

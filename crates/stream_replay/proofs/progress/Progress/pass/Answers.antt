@@ -8,11 +8,11 @@ use Rattle.tuple_trace.specs.declared.row.Row.{Row}
 use Rattle.sink_journal.specs.Audit.{audit_header}
 use Rattle.sink_journal.specs.declared.audit.Noted.{Noted}
 use Rattle.audit_fault.specs.Noting.{IsNoted}
-use Rattle.audit_laws.specs.Fits.{records_of}
+use Rattle.audit_laws.specs.Fits.{csv_records}
 use Rattle.flow_model.specs.Record.{record_view}
 use Rattle.flow_model.specs.Setup.{setup_view}
 use Rattle.savepoint.specs.Parts.{first_of}
-use Rattle.stream_replay.specs.InParts.{refused_told, row_in, told_in, turned_in}
+use Rattle.stream_replay.specs.InParts.{refused_told, row_in, told_up_to, turned_in}
 use Rattle.stream_replay.specs.inner.Progress.{body_of, given_of, start_in, with_all}
 use Rattle.stream_replay.proofs.PartLemmas.{part_of, starts}
 use Rattle.stream_replay.proofs.progress.Progress.pass.Goals as goal
@@ -58,13 +58,13 @@ returns-clause-part c =
     let refused_is : refused ≡ refused_told given start body =
     ap (λ (l : List Noted). slice_range l self.told extent.told) c.deref.ensures.value
     ∙ ap (λ k. slice_range whole.noted.items self.told k) c.extent-extent.ensures.told in
-    let read : records_of c.as_slice.result.now ≡ audit_header ∷ body =
-    ap records_of c.as_slice.ensures ∙ c.requires.counted.read in (
+    let read : csv_records c.as_slice.result.now ≡ audit_header ∷ body =
+    ap csv_records c.as_slice.ensures ∙ c.requires.counted.read in (
       ran,
       part_of given start body (setup_view c.in_ok-setup.setup) c.in_ok-fed.fed refused
           c.as_slice.result.now view_is fed_is refused_is read ran c.in_ok-ran.ensures.run
           c.in_ok-ran.ensures.fits,
       starts extent.row extent.turned extent.told c.in_ok-ran.ran.states (row_in given start body)
-          (turned_in given start body) (told_in given start body) c.extent-extent.ensures.row
+          (turned_in given start body) (told_up_to given start body) c.extent-extent.ensures.row
           c.extent-extent.ensures.turned c.extent-extent.ensures.told,
     )

@@ -8,7 +8,7 @@ use Rattle.flow_model.specs.Planned.{IsFollowed}
 use Rattle.flow_model.specs.Setup.{setup_view}
 use Rattle.flow_model.specs.SetupView.{SetupView}
 use Rattle.flow_model.specs.Workers.{workers_in}
-use Rattle.stream_step.specs.Parts.{due_in, left_in}
+use Rattle.stream_step.specs.Parts.{due_in, left_by_parts}
 use Rattle.stream_step.specs.Pending.{AreAsked, SplitWithin, issued_by, kept_by, lifted}
 use Rattle.stream_step.proofs.PendingLemmas.{are_fed, issued_accepted, issued_asked, issued_fed}
 use Rattle.stream_step.proofs.PendingLemmas.{issued_within, kept_accepted, kept_within}
@@ -44,7 +44,7 @@ invariant_of-result c =
     let due_is : c.in_ok-due.field-0.due ≡ due =
     c.in_ok-due.ensures.due ∙ ap (λ (b : Begin). map (lifted b.row)
     (issued_by self.exact b.row c.args.last self.pending)) c.start.view_is in
-    let left_is : c.in_ok-due.field-0.left ≡ left_in self c.args.last =
+    let left_is : c.in_ok-due.field-0.left ≡ left_by_parts self c.args.last =
     c.in_ok-due.ensures.left ∙ ap (λ (b : Begin). kept_by self.exact b.row c.args.last
     self.pending) c.start.view_is in
     let is = c.in_ok-setup.ensures.followed.extended_is in
@@ -69,9 +69,9 @@ invariant_of-result c =
           subst (λ (l : List Request). AreAccepted (job_view setup.job)
           (setup.judged.accepted ++ map (lifted c.args.last) l)) (sym left_is)
           (subst (λ (l : List Request). AreAccepted (job_view setup.job)
-          (l ++ map (lifted c.args.last) (left_in self c.args.last))) (sym all_are)
+          (l ++ map (lifted c.args.last) (left_by_parts self c.args.last))) (sym all_are)
           (subst (λ j. AreAccepted j ((taken ++ due) ++ map (lifted c.args.last)
-          (left_in self c.args.last))) (sym job_is)
+          (left_by_parts self c.args.last))) (sym job_is)
           (kept_accepted c.accepted_requests_are_in_order.ensures
           c.accepted_requests_may_wait.ensures (job_view self.setup.job) self.exact
           self.start.row c.args.last taken self.pending le self.setup.accepted self.due
@@ -103,7 +103,7 @@ returns-clause-asked c all asked =
     let self = c.args.self in
     let setup = c.in_ok-setup.setup in
     let is = c.in_ok-setup.ensures.followed.extended_is in
-    let left_is : c.in_ok-due.field-0.left ≡ left_in self c.args.last =
+    let left_is : c.in_ok-due.field-0.left ≡ left_by_parts self c.args.last =
     c.in_ok-due.ensures.left ∙ ap (λ (b : Begin). kept_by self.exact b.row c.args.last
     self.pending) c.start.view_is in
     let all_are : setup.judged.accepted ≡ self.setup.judged.accepted
@@ -116,9 +116,9 @@ returns-clause-asked c all asked =
     subst (λ (l : List Request). AreAsked (job_view setup.job) setup.judged.accepted l all)
     (sym left_is)
     (subst (λ (l : List Request). AreAsked (job_view setup.job) l
-    (left_in self c.args.last) all) (sym all_are)
+    (left_by_parts self c.args.last) all) (sym all_are)
     (subst (λ j. AreAsked j (self.setup.judged.accepted ++ map (lifted self.start.row)
-    (due_in self c.args.last)) (left_in self c.args.last) all) (sym job_is)
+    (due_in self c.args.last)) (left_by_parts self c.args.last) all) (sym job_is)
     (issued_asked c.accepted_requests_are_in_order.ensures (job_view self.setup.job) self.exact
     self.start.row c.args.last self.setup.judged.accepted self.pending all c.requires
     self.accepted asked)))
