@@ -2,4 +2,3 @@ pub mod FeedLemmas
 pub mod WaitLemmas
 pub mod RecordLemmas
 pub mod LiveLemmas
-pub mod ReadLemmas

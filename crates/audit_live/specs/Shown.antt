@@ -1,13 +1,7 @@
 -- How many rows each request waits for, as the records of an audit show it.
-use Rattle.std.specs.Prelude.{ℕ, suc, Bool, false, List, [], ◌∷◌, codes, max, min}
-use Rattle.std.specs.Prelude.{if◌then◌else◌}
-use Rattle.std.specs.Str.{bytes_eq}
+use Rattle.std.specs.Prelude.{ℕ, suc, List, [], ◌∷◌, codes, max, min, if◌then◌else◌}
+use Rattle.payments.specs.Reading.{begins_with}
 use Rattle.versions.specs.declared.request.Request.{Request}
-
--- The record has a first field, and it is this word.
-abbrev pub begins_with : List ℕ → List (List ℕ) → Bool
-begins_with word [] = false
-begins_with word (field ∷ later) = bytes_eq field word
 
 -- The number of `fed` records before each `issued` record, if this many came before.
 abbrev pub rows_shown : ℕ → List (List (List ℕ)) → List ℕ

@@ -1,10 +1,10 @@
 // The waits that a text shows.
 ghost use Rattle.std.specs.Prelude.{◌≡◌, IfOk, get_or, length, max, min};
 ghost use Rattle.csv.specs.Reading.{default_config, records, strip_bom};
-ghost use Rattle.csv.specs.Records.{fields_of};
-ghost use Rattle.audit_live.specs.Shown.{begins_with, rows_shown, waits_from};
+ghost use Rattle.audit_live.specs.Shown.{rows_shown, waits_from};
 ghost use Rattle.audit_live.specs.Shown.{shown_waits as shown_waits_of};
 
+use audit_parts::begins_with;
 use csv::ByteRecord;
 use payments::TextRecords;
 use std::alloc::Global;
@@ -53,15 +53,6 @@ fn rows_shown(
         }
     }
     Err(NoMemory)
-}
-
-fn begins_with(cells: &ByteRecord, word: &[u8]) -> bool
-    ensures { result ≡ begins_with word.now (fields_of cells.now) }
-{
-    match cells.get(0) {
-        Some(field) => field == word,
-        None => false,
-    }
 }
 
 // The waits of these requests, if these rows are shown for them.

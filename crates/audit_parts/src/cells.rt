@@ -7,8 +7,8 @@ ghost use Rattle.audit_parts.specs.Cut.{leads, may_end};
 
 use csv::ByteRecord;
 
-/// The cell at a place. No bytes if there is none.
-pub(crate) fn cell(cells: &ByteRecord, place: usize) -> &[u8]
+/// The cell of a record at a place. No bytes if there is none.
+pub fn cell(cells: &ByteRecord, place: usize) -> &[u8]
     ensures { result.now ≡ get_or (fields_of cells.now) place [] }
 {
     match cells.get(place) {
@@ -17,8 +17,8 @@ pub(crate) fn cell(cells: &ByteRecord, place: usize) -> &[u8]
     }
 }
 
-/// Whether the first cell is this word.
-pub(crate) fn is_first(cells: &ByteRecord, word: &[u8]) -> bool
+/// Whether the first cell of a record is this word.
+pub fn begins_with(cells: &ByteRecord, word: &[u8]) -> bool
     ensures { result ≡ begins_with word.now (fields_of cells.now) }
 {
     match cells.get(0) {
@@ -31,24 +31,24 @@ pub(crate) fn is_first(cells: &ByteRecord, word: &[u8]) -> bool
 pub(crate) fn one_if(cells: &ByteRecord, word: &[u8]) -> u64
     ensures { result ≡ (if begins_with word.now (fields_of cells.now) then 1 else 0) }
 {
-    if is_first(cells, word) { 1 } else { 0 }
+    if begins_with(cells, word) { 1 } else { 0 }
 }
 
 /// Whether the record is of a refused request or of the feeder.
 pub(crate) fn leads(cells: &ByteRecord) -> bool
     ensures { result ≡ leads (fields_of cells.now) }
 {
-    is_first(cells, b"refused")
-        || is_first(cells, b"fed")
-        || is_first(cells, b"issued")
-        || is_first(cells, b"stopped")
+    begins_with(cells, b"refused")
+        || begins_with(cells, b"fed")
+        || begins_with(cells, b"issued")
+        || begins_with(cells, b"stopped")
 }
 
 /// Whether a part may end with the record.
 pub(crate) fn may_end(cells: &ByteRecord) -> bool
     ensures { result ≡ may_end (fields_of cells.now) }
 {
-    is_first(cells, b"stopped") || !leads(cells)
+    begins_with(cells, b"stopped") || !leads(cells)
 }
 
 /// Whether the record is the header of an audit.

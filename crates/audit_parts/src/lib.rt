@@ -21,6 +21,7 @@ mod part;
 mod parts;
 mod writing;
 
+pub use cells::{begins_with, cell};
 pub use laws::{
     parts_are_cut_at_borders, parts_join_to_the_records, written_parts_are_found,
     written_streams_are_read,

@@ -10,7 +10,8 @@ use Rattle.std.proofs.lemmas.List.FromFn.{get_or-map-range_with_len, length-map-
 use Rattle.jobs.specs.JobView.{JobView}
 use Rattle.sink_journal.specs.Records.{record_text, records_text}
 use Rattle.audit_laws.specs.Names.{Named, named_workers}
-use Rattle.audit_stream.specs.Together.{begins_with, by_group, field, group_count, record_group, in_group, tells_step, is_of_worker}
+use Rattle.payments.specs.Reading.{begins_with}
+use Rattle.audit_stream.specs.Together.{by_group, field, group_count, record_group, in_group, tells_step, is_of_worker}
 use Rattle.audit_stream.specs.Sorting.{SpelledWorker, closed_from, closes, group_among, group_text, group_texts, number_spelled, spelled, workers_spelled}
 use Rattle.audit_stream.proofs.ClosedLemmas.{closed_from-open, closed_from-push, closed_from-skip, count_past, one_past}
 

@@ -4,10 +4,10 @@ use Rattle.std.specs.Prelude.{◌∷◌, Some, bytes_eq, codes, decimal, filter,
 use Rattle.std.specs.Prelude.{map, nat_lt, not, slice_get}
 use Rattle.std.specs.List.{position_or_len, range_with_len}
 use Rattle.jobs.specs.JobView.{JobView}
+use Rattle.payments.specs.Reading.{begins_with}
 use Rattle.sink_journal.specs.Records.{records_text}
 use Rattle.audit_laws.specs.Names.{Named, named_workers}
-use Rattle.audit_stream.specs.Together.{begins_with, field, has_stop, tells_end, tells_step}
-use Rattle.audit_stream.specs.Together.{tells_stop}
+use Rattle.audit_stream.specs.Together.{field, has_stop, tells_end, tells_step, tells_stop}
 
 -- the record is a stop or an end
 abbrev pub closes : List (List ℕ) → Bool

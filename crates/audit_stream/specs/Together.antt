@@ -3,15 +3,12 @@ use Rattle.std.specs.Prelude.{◌+◌, ◌==◌, ◌&&◌, ◌||◌, ℕ, Bool, 
 use Rattle.std.specs.Prelude.{decimal, filter, get_or, if◌then◌else◌, length}
 use Rattle.std.specs.List.{flat_map, list_any, position_or_len, range_with_len}
 use Rattle.jobs.specs.JobView.{JobView}
+use Rattle.payments.specs.Reading.{begins_with}
 use Rattle.audit_laws.specs.Names.{Named, named_workers}
 
 -- the field at this place, and an empty one past the last
 abbrev pub field : ℕ → List (List ℕ) → List ℕ
 field place fields = get_or fields place []
-
--- the first field of the record is this word
-abbrev pub begins_with : List ℕ → List (List ℕ) → Bool
-begins_with word fields = bytes_eq (field 0 fields) word
 
 -- ---- the ends of the last part
 

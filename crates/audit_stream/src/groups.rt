@@ -9,9 +9,10 @@ ghost use Rattle.sink_journal.specs.Records.{record_text};
 ghost use Rattle.audit_stream.specs.Sorting.{AreDistinct, closed_from, group_among, group_texts};
 ghost use Rattle.audit_stream.specs.Sorting.{workers_spelled};
 
-use crate::kinds::{begins_with, closes, is_step};
+use crate::kinds::{closes, is_step};
 use crate::workers::{Spelled, number_of, spelled_workers};
-use crate::writing::{append_record, cell};
+use crate::writing::append_record;
+use audit_parts::{begins_with, cell};
 use csv::ByteRecord;
 use jobs::Job;
 use payments::TextRecords;

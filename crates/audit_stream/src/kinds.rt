@@ -2,18 +2,11 @@
 ghost use Rattle.std.specs.Prelude.{◌≡◌};
 ghost use Rattle.csv.specs.Records.{fields_of};
 ghost use Rattle.audit_stream.specs.Sorting.{closes as closes_in};
-ghost use Rattle.audit_stream.specs.Together.{begins_with, tells_step as is_step_in};
+ghost use Rattle.audit_stream.specs.Together.{tells_step as is_step_in};
 ghost use Rattle.audit_stream.specs.Together.{tells_stop as is_stop_in};
 
-use crate::writing::cell;
+use audit_parts::begins_with;
 use csv::ByteRecord;
-
-/// Whether the first cell is this word.
-pub(crate) fn begins_with(cells: &ByteRecord, word: &[u8]) -> bool
-    ensures { result ≡ begins_with word.now (fields_of cells.now) }
-{
-    cell(cells, 0) == word
-}
 
 /// Whether the feeder ended its lanes.
 pub(crate) fn is_stop(cells: &ByteRecord) -> bool

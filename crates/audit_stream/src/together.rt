@@ -11,7 +11,7 @@ ghost use Rattle.audit_stream.specs.Together.{together};
 
 use crate::groups::sorted_text;
 use crate::kinds::is_stop;
-use crate::writing::cell;
+use audit_parts::cell;
 use csv::ByteRecord;
 use jobs::Job;
 use payments::TextRecords;

@@ -1,10 +1,11 @@
 // Records of CSV, written as the default writer of `csv` writes them.
-ghost use Rattle.std.specs.Prelude.{◌≡◌, ◌++◌, ◌∷◌, [], OnOk, get_or};
+ghost use Rattle.std.specs.Prelude.{◌≡◌, ◌++◌, ◌∷◌, [], OnOk};
 ghost use Rattle.csv.specs.Records.{fields_of};
 ghost use Rattle.csv.specs.Writing.{default_writer, escaped, field_text, is_blank, needs_quotes};
 ghost use Rattle.csv.specs.Writing.{quoted, row_body};
 ghost use Rattle.sink_journal.specs.Records.{record_text};
 
+use audit_parts::cell;
 use csv::ByteRecord;
 use tuple_trace::{Bytes, NoMemory};
 
@@ -37,16 +38,6 @@ fn shows_nothing(cells: &ByteRecord) -> bool
     ensures { result ≡ is_blank default_writer (fields_of cells.now) }
 {
     cells.len() == 0 || cells.len() == 1 && cell(cells, 0).is_empty()
-}
-
-/// The cell at this place, or an empty one past the last.
-pub(crate) fn cell(cells: &ByteRecord, place: usize) -> &[u8]
-    ensures { result.now ≡ get_or (fields_of cells.now) place [] }
-{
-    match cells.get(place) {
-        Some(cell) => cell,
-        None => &[],
-    }
 }
 
 fn append_field(text: &mut Bytes, field: &[u8]) -> Result<(), NoMemory>
