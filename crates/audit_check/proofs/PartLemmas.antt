@@ -2,7 +2,6 @@
 use Rattle.std.proofs.Common.{◌≡◌, ◌≢◌, ◌∙◌, ◌<◌, ◌≤◌, ◌+◌, ◌++◌, ℕ, zero, suc, List, [], ◌∷◌, inl, inr, refl, sym, ap, ap₂, subst, arith, All, filter_map, length, take, Option, Some, None, slice_get}
 use Rattle.std.proofs.lemmas.List.{append-nil, append_assoc, length-take}
 use Rattle.std.proofs.lemmas.List.Elements.{filter_map-append}
-use Rattle.std.proofs.lemmas.Option.{same_Some}
 use Rattle.jobs.specs.JobView.{JobView}
 use Rattle.flow_model.proofs.ElementLemmas.{Before, IsIn, at_of_all, before_right, in_right, pair_of_all}
 use Rattle.audit_laws.specs.declared.audit.Line.{Line}
@@ -10,6 +9,7 @@ use Rattle.audit_laws.specs.Lines.{IsLawfulLine, StandInOrder, group_of, line_fi
 use Rattle.audit_laws.specs.Names.{named_workers}
 use Rattle.audit_laws.specs.Verdict.{DifferFirst, fields_of}
 use Rattle.audit_laws.proofs.LineLemmas.{AreTold, same_line}
+use Rattle.flow_model.proofs.TopologyLemmas.{take-next}
 
 -- Some lines were read, and these records are left. Of the group, the lines that were read tell the
 -- first of what is wanted.
@@ -30,12 +30,7 @@ past_end [] (suc k) = refl
 past_end (x ∷ xs) zero = refl
 past_end (x ∷ xs) (suc k) = past_end xs k
 
-take_one_more : {A : Type 0} (xs : List A) (k : ℕ) (x : A) → slice_get xs k ≡ Some x → take (k + 1) xs ≡ take k xs ++ x ∷ []
-take_one_more [] k x g = absurd (cc)
-take_one_more (y ∷ xs) zero x g = let same : y ≡ x = same_Some y x g in let e : zero + 1 ≡ suc zero = omega arith in ap (λ n. take n (y ∷ xs)) e ∙ ap (λ z. z ∷ []) same
-take_one_more {A} (y ∷ xs) (suc k) x g = let e : suc k + 1 ≡ suc (k + 1) = omega arith in ap (λ n. take n (y ∷ xs)) e ∙ ap (λ (l : List A). y ∷ l) (take_one_more xs k x g)
-
-get_after : {A : Type 0} (xs : List A) (x : A) (ys : List A) (k : ℕ) → length xs ≡ k → slice_get (xs ++ x ∷ ys) k ≡ Some x
+pub get_after : {A : Type 0} (xs : List A) (x : A) (ys : List A) (k : ℕ) → length xs ≡ k → slice_get (xs ++ x ∷ ys) k ≡ Some x
 get_after [] x ys zero e = refl
 get_after [] x ys (suc k) e = absurd (omega (arith, e))
 get_after (z ∷ xs) x ys zero e = absurd (omega (arith, e))
@@ -114,7 +109,7 @@ module _ (job : JobView) (told : AreTold job) {A : Type 0} (pick : Line → Opti
           fields = n.new_is;
           told =
               filter_map-append pick at.above (make a ∷ [])
-              ∙ (ap₂ (λ (x y : List A). x ++ y) at.told (rw (picked a) refl) ∙ sym (take_one_more wanted k a w));
+              ∙ (ap₂ (λ (x y : List A). x ++ y) at.told (rw (picked a) refl) ∙ sym (take-next wanted k a w));
           within = omega (arith, lt);
           reached = λ l i. at.reached l (subst (λ (r : List Line). IsIn l r) (sym n.rest_is) (inr i));
         }

@@ -10,16 +10,11 @@ use Rattle.std.proofs.lemmas.List.Elements.{All-from_recursion, recursion_from_A
 use Rattle.std.proofs.lemmas.List.Splits.{join_with_byte-slice_split, slice_split_at, slice_split_none}
 use Rattle.std.proofs.lemmas.Option.{same_Some}
 use Rattle.tuple_trace.specs.Digits.{at_most, digits_of}
-use Rattle.payments.specs.Spelling.{number_in_text, with_sign}
-use Rattle.payments.proofs.SpellingLemmas.{with_sign_at_most}
+use Rattle.payments.specs.Spelling.{number_in_text}
 use Rattle.savepoint.proofs.NumberLemmas.{digits-decimal, number-signed}
 use Rattle.sink_journal.specs.Audit.{dotted}
 use Rattle.audit_laws.proofs.BirthLemmas.{Dotless, dotless}
 use Rattle.audit_check.specs.Parts.{parts_at_dots, texts_of}
-
--- a size of more than 64 bits is out of range with any sign
-pub with_sign_read : (negative : Bool) (size : Option ℕ) → with_sign negative (at_most (2 ^ 64 - 1) size) ≡ with_sign negative size
-with_sign_read negative size = with_sign_at_most negative size
 
 -- ---- numbers
 

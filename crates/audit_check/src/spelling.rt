@@ -68,7 +68,7 @@ fn is_signed(text: &[u8], count: i64) -> bool
 }
 
 // The number that an optional `-` and digits spell, if it is an `i64`.
-#[tactic(auto, using(crate::proofs::SpellingLemmas::with_sign_read))]
+#[tactic(auto, using(payments::proofs::SpellingLemmas::with_sign_at_most))]
 fn loosely(text: &[u8]) -> Option<i64>
     ensures { result ≡ number_in_text text.now }
 {

@@ -34,7 +34,8 @@ use Rattle.audit_laws.specs.Faults.{AreItems, ComesBefore, HasBadLane, HasBadLaw
 use Rattle.audit_laws.specs.Trimmed.{trimmed}
 use Rattle.audit_laws.proofs.CheckedLemmas.{met_by_draft, run_checked}
 use Rattle.audit_laws.proofs.OneRunLemmas.{Left, left_of, conserved_by_run}
-use Rattle.audit_laws.proofs.SeenLemmas.{MarksPlans, marked_is_due, plan_there, seen_shown}
+use Rattle.flow_model.proofs.AgreementLemmas.{some_plan}
+use Rattle.audit_laws.proofs.SeenLemmas.{MarksPlans, marked_is_due, seen_shown}
 use Rattle.audit_laws.proofs.ConservedLemmas.{IsClosed, IsConservedAt, same_journals, sender_stands}
 use Rattle.audit_laws.proofs.TrimLemmas.{MetOn}
 
@@ -110,7 +111,7 @@ module _ (begin : Begin) (setup : SetupView) (connected : IsConnected setup.job)
 
     marks_plans : (w : ℕ) (who : Worker) (l : Left begin setup rows journals states run w who) → MarksPlans setup l.journal
     marks_plans w who l n r i =
-        plan_there setup r who.node (due_covers setup begin.turned who.node r (
+        some_plan setup r who.node (due_covers setup begin.turned who.node r (
         marked_is_due (duties setup begin.turned who) (initial (duties setup begin.turned who)) l.journal n r l.worked.finished.lawful.execution i))
 
     pub no_bad_law : (w : ℕ) → HasBadLaw begin setup rows (map trimmed journals) w → ⊥

@@ -1,8 +1,8 @@
 -- The lines of a run have their form.
-use Rattle.std.proofs.Common.{◌≡◌, ◌∙◌, ◌<◌, ◌+◌, ◌^◌, ◌++◌, ℕ, suc, List, [], ◌∷◌, inl, inr, refl, sym, ap, subst, arith, All, length, map, Some, slice_get, option_map}
+use Rattle.std.proofs.Common.{◌≡◌, ◌∙◌, ◌<◌, ◌+◌, ◌^◌, ◌++◌, ℕ, suc, List, [], ◌∷◌, inl, inr, refl, sym, ap, subst, arith, All, length, map, Some, slice_get}
 use Rattle.std.specs.FinMap.{entries}
 use Rattle.std.proofs.lemmas.List.{length-map}
-use Rattle.std.proofs.lemmas.Option.{same_Some, slice_get-map, slice_get_within}
+use Rattle.std.proofs.lemmas.Option.{same_Some, slice_get_within}
 use Rattle.jobs.specs.Law.{IsLawful}
 use Rattle.keyed_state.specs.Counts.{Counts}
 use Rattle.sink_journal.specs.declared.audit.Noted.{Noted}
@@ -40,6 +40,7 @@ use Rattle.audit_laws.proofs.NarrowLemmas.{IsNarrow, each_narrow}
 use Rattle.audit_laws.proofs.OneRunLemmas.{Left, left_of, conserved_by_run}
 use Rattle.audit_laws.proofs.RangeLemmas.{EachInRange, all_range, begin_range}
 use Rattle.audit_laws.proofs.TextLemmas.{length-named}
+use Rattle.flow_model.proofs.PlaceLemmas.{map_place}
 
 -- ---- where a line stands
 
@@ -56,13 +57,6 @@ in_workers k (j ∷ js) (s ∷ ss) y i =
           let e : k + 1 + r.0 ≡ k + suc r.0 = omega arith in
           (suc r.0, r.1, r.2, r.3, r.4, subst (λ w. IsIn y (worker_lines w r.1 r.2)) e r.5)
     ]
-
--- an item of a list's image is the image of the item
-of_image : {A B : Type 0} (f : A → B) (xs : List A) (k : ℕ) (y : B) → slice_get (map f xs) k ≡ Some y → (x : A) × (slice_get xs k ≡ Some x) × (y ≡ f x)
-of_image f xs k y g =
-    let lt : k < length (map f xs) = slice_get_within (map f xs) k y g in
-    let x = item_at xs k (omega (arith, lt, length-map xs f)) in
-    (x.0, x.1, same_Some y (f x.0) (sym g ∙ (slice_get-map f xs k ∙ ap (option_map f) x.1)))
 
 module _ (begin : Begin) (begins : BeginsInRange begin) (setup : SetupView) (law : IsLawful setup.job) (connected : IsConnected setup.job) (kinds : KeepKinds setup.job setup.requests)
     (few_plans : length setup.plans < 2 ^ 64) (few_requests : length setup.requests < 2 ^ 64) (rows : List Row) (are : AreRows rows) (few_rows : length rows < 2 ^ 64)
@@ -127,8 +121,8 @@ module _ (begin : Begin) (begins : BeginsInRange begin) (setup : SetupView) (law
                     subst (IsLawfulLine setup.job) (sym r.2) (feed_form r.0 (feed_among begin.row begin.turned (afters setup.requests) (length rows) r.0 r.1))
                 | inr d ↦
                     let r = in_workers 0 (map trimmed journals) (map entries states) y d in
-                    let j = of_image trimmed journals r.0 r.1 r.3 in
-                    let s = of_image entries states r.0 r.2 r.4 in
+                    let j = map_place trimmed journals r.0 r.1 r.3 in
+                    let s = map_place entries states r.0 r.2 r.4 in
                     let z : 0 + r.0 ≡ r.0 = omega arith in
                     worker_form r.0 j.0 s.0 y j.1 s.1 (
                     subst (λ (a : List AuditEntry). IsIn y (worker_lines r.0 a (entries s.0))) j.2 (

@@ -29,7 +29,8 @@ use Rattle.audit_laws.specs.Faults.{AreTrimmedFinished, AreItems, ComesBefore, H
 use Rattle.audit_laws.specs.Trimmed.{trim, trimmed}
 use Rattle.audit_laws.proofs.CheckedLemmas.{met_by_draft}
 use Rattle.audit_laws.proofs.FaultLemmas.{brings_same, in_order, order_below, order_forward}
-use Rattle.audit_laws.proofs.SeenLemmas.{MarksPlans, marked_is_due, plan_there, seen_shown}
+use Rattle.flow_model.proofs.AgreementLemmas.{some_plan}
+use Rattle.audit_laws.proofs.SeenLemmas.{MarksPlans, marked_is_due, seen_shown}
 use Rattle.audit_laws.proofs.ConservedLemmas.{IsClosed, IsConservedAt, same_journals}
 use Rattle.audit_laws.proofs.TrimLemmas.{MetOn}
 
@@ -55,7 +56,7 @@ module _ (begin : Begin) (setup : SetupView) (order : List ℕ) (connected : IsC
 
     marks_plans : (journals : List (List Entry)) (w : ℕ) (who : Worker) → slice_get (workers_in setup.job) w ≡ Some who → (r : IsRestored begin setup rows audit journals w) → MarksPlans setup r.journal
     marks_plans journals w who p r n q i =
-        plan_there setup q who.node (due_covers setup begin.turned who.node q (
+        some_plan setup q who.node (due_covers setup begin.turned who.node q (
         marked_is_due (duties setup begin.turned who) (initial (duties setup begin.turned who)) (drafted begin.turned (feed_of begin setup rows) (trimmed r.journal)) n q
         (finished w who (trimmed r.journal) p r.kept_there).lawful.execution
         (map_in (draft begin.turned (feed_of begin setup rows)) (trim (entry.Marked n q)) (trimmed r.journal) (map_in trim (entry.Marked n q) r.journal i))))

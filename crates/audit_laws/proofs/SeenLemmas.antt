@@ -1,12 +1,12 @@
 -- What an audit keeps of the items that a lane shows is what it keeps of the entries that take them.
-use Rattle.std.proofs.Common.{◌≡◌, ◌∙◌, ◌==◌, ◌++◌, ℕ, List, [], ◌∷◌, inl, inr, refl, sym, ap, ap₂, subst, true, false, Bool, cond, map, filter, Some, None, Option}
+use Rattle.std.proofs.Common.{◌≡◌, ◌∙◌, ◌==◌, ◌++◌, ℕ, List, [], ◌∷◌, inl, inr, refl, sym, ap, ap₂, subst, true, false, Bool, cond, map, filter, Some}
 use Rattle.std.proofs.lemmas.Bool.{eqb-true}
 use Rattle.std.proofs.lemmas.List.{map-append}
 use Rattle.cover_planner.specs.declared.cover.Plan.{Plan}
 use Rattle.sink_journal.specs.declared.journal.Entry.{Entry}
 use Rattle.sink_journal.specs.declared.journal.Entry.TheVariants as entry
 use Rattle.tuple_trace.specs.declared.tuple.Item.TheVariants as item
-use Rattle.flow_model.specs.Covers.{covers, holds_node, plan_of}
+use Rattle.flow_model.specs.Covers.{plan_of}
 use Rattle.flow_model.specs.Law.{IsExecution, Progress, Duties, after_entry, later_dues, next_due}
 use Rattle.flow_model.specs.SetupView.{SetupView}
 use Rattle.flow_model.specs.Replay.{came_in, marker, marker_by, shown}
@@ -40,13 +40,6 @@ marked_is_due duties progress (entry.Turned q ∷ xs) l r f (inl e) = absurd (cc
 marked_is_due duties progress (entry.Turned q ∷ xs) l r f (inr i) = later_due r progress.dues (marked_is_due duties (after_entry progress (entry.Turned q)) xs l r f.1 i)
 marked_is_due duties progress (entry.Ended k ∷ xs) l r f (inl e) = absurd (cc)
 marked_is_due duties progress (entry.Ended k ∷ xs) l r f (inr i) = marked_is_due duties (after_entry progress (entry.Ended k)) xs l r f.1 i
-
-pub plan_there : (setup : SetupView) (r node : ℕ) → covers setup r node ≡ true → (plan : Plan) × (plan_of setup r ≡ Some plan)
-plan_there setup r node c = go (plan_of setup r) refl c
-  where
-    go : (o : Option Plan) → plan_of setup r ≡ o → holds_node o node ≡ true → (plan : Plan) × (plan_of setup r ≡ Some plan)
-    go None e h = absurd (cc)
-    go (Some plan) e h = (plan, e)
 
 -- ---- lanes
 

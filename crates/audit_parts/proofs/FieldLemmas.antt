@@ -1,38 +1,8 @@
 -- The text of a record, field by field.
-use Rattle.std.proofs.Common.{◌≡◌, ◌==◌, ◌++◌, ◌∷◌, ◌∙◌, ◌<◌, ◌≤◌, [], ℕ, List, Bool, true, false, Result, Ok, Err, OnOk, refl, sym, ap, arith, append_assoc, drop, get_or, length, if◌then◌else◌}
+use Rattle.std.proofs.Common.{◌≡◌, ◌==◌, ◌++◌, ◌∷◌, ◌∙◌, ◌<◌, ◌≤◌, [], ℕ, List, Bool, true, false, refl, sym, ap, arith, append_assoc, drop, get_or, length}
 use Rattle.std.proofs.lemmas.Bool.{ne_eqb}
-use Rattle.std.proofs.lemmas.List.{append-nil, drop_all}
-use Rattle.csv.specs.Writing.{default_writer, escaped, field_text, fields_text, is_blank, needs_quotes}
+use Rattle.csv.specs.Writing.{default_writer, field_text, fields_text, is_blank, needs_quotes}
 use Rattle.sink_journal.specs.Records.{record_text}
-
--- what follows from a fact of a call that went well
-pub on-ok : {T E : Type 0} {P Q : Type 0} (r : Result T E) → (P → Q) → OnOk r P → OnOk r Q
-on-ok (Ok v) f p = f p
-on-ok (Err e) f p = tt
-
--- ---- one byte between quotes, and then the others
-
-split-choice : (t : Bool) (q b : ℕ) (rest : List ℕ) → (if t then q ∷ b ∷ rest else b ∷ rest) ≡ (if t then q ∷ b ∷ [] else b ∷ []) ++ rest
-split-choice true q b rest = refl
-split-choice false q b rest = refl
-
-pub escaped-cons : (b : ℕ) (rest : List ℕ) → escaped default_writer (b ∷ rest) ≡ escaped default_writer (b ∷ []) ++ escaped default_writer rest
-unfolding escaped
-escaped-cons b rest = split-choice (b == 34) 34 b (escaped default_writer rest)
-
-pub escaped-same : (b : ℕ) → (b == 34) ≡ true → escaped default_writer (b ∷ []) ≡ 34 ∷ b ∷ []
-unfolding escaped
-escaped-same b e = rw e refl
-
-pub escaped-other : (b : ℕ) → (b == 34) ≡ false → escaped default_writer (b ∷ []) ≡ b ∷ []
-unfolding escaped
-escaped-other b e = rw e refl
-
--- all bytes are written between the quotes
-pub escaped-done : (text start field : List ℕ) (i : ℕ) → length field ≤ i → text ++ escaped default_writer (drop i field) ≡ start ++ 34 ∷ escaped default_writer field
-    → text ≡ start ++ 34 ∷ escaped default_writer field
-unfolding escaped
-escaped-done text start field i far written = sym (append-nil text) ∙ (rw (drop_all i field far) at written)
 
 -- ---- one field more
 
@@ -47,11 +17,6 @@ one-field old mid new field end rest comma text before =
     ∙ append_assoc (old ++ 44 ∷ []) F G
     ∙ append_assoc old (44 ∷ []) (F ++ G)
     ∙ before
-
--- no field is left
-pub no-field : (now end : List ℕ) → now ++ fields_text default_writer [] ≡ end → now ≡ end
-unfolding fields_text
-no-field now end before = sym (append-nil now) ∙ before
 
 -- ---- a whole record
 

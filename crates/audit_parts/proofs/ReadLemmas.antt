@@ -81,7 +81,7 @@ as_long [] = omega arith
 as_long (fields ∷ more) = omega (arith, one_byte fields, as_long more, length-append (record_text fields) (records_text more))
 
 -- no byte order mark stands at the front of an audit
-bare : (later : List (List (List ℕ))) → strip_bom (records_text (audit_header ∷ later)) ≡ records_text (audit_header ∷ later)
+pub bare : (later : List (List (List ℕ))) → strip_bom (records_text (audit_header ∷ later)) ≡ records_text (audit_header ∷ later)
 unfolding strip_bom is_blank fields_text
 bare later = refl
 

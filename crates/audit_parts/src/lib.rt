@@ -28,3 +28,4 @@ pub use laws::{
 };
 pub use part::AuditPart;
 pub use parts::AuditParts;
+pub use writing::write_record;

@@ -9,8 +9,8 @@ use crate::cells::cell;
 use csv::ByteRecord;
 use tuple_trace::{Bytes, NoMemory};
 
-/// Appends a record to a text.
-pub(crate) fn write_record(text: &mut Bytes, cells: &ByteRecord) -> Result<(), NoMemory>
+/// Appends a record to a text as the default writer of `csv` writes it, with a line feed.
+pub fn write_record(text: &mut Bytes, cells: &ByteRecord) -> Result<(), NoMemory>
     ensures { OnOk result (text.new ≡ text.old ++ record_text (fields_of cells.now)) }
 {
     if is_blank(cells) {

@@ -4,6 +4,7 @@ use Rattle.std.proofs.lemmas.List.{append-nil, append_assoc, length-map, length-
 use Rattle.std.proofs.lemmas.Option.{get_or_from_slice_get, same_Some, slice_get-get_or, slice_get_within}
 use Rattle.std.specs.Prelude.{All}
 use Rattle.flow_model.proofs.ElementLemmas.{IsIn, all_of_at, at_of_all, in_cases}
+use Rattle.audit_check.proofs.PartLemmas.{get_after}
 
 -- Some items are the first ones of a list, and these are left.
 pub record AreFirst {A : Type 0} (told all left : List A) (place : ℕ) : Type 0 where
@@ -23,16 +24,10 @@ next_first {A} told all left later place x are e g =
       within = omega (arith, lt);
     }
 
-at_front : {A : Type 0} (xs : List A) (x : A) (ys : List A) (k : ℕ) → length xs ≡ k → slice_get (xs ++ x ∷ ys) k ≡ Some x
-at_front [] x ys zero e = refl
-at_front [] x ys (suc k) e = absurd (omega (arith, e))
-at_front (z ∷ xs) x ys zero e = absurd (omega (arith, e))
-at_front (z ∷ xs) x ys (suc k) e = at_front xs x ys k (omega (arith, e))
-
 pub other_next : {A : Type 0} (told all left later : List A) (place : ℕ) (x : A) → AreFirst told all left place → left ≡ x ∷ later → (slice_get told place ≡ Some x → ⊥) → told ≡ all → ⊥
 other_next {A} told all left later place x are e ne same =
     let le = are.within in
-    ne (ap (λ (l : List A). slice_get l place) (same ∙ (are.split ∙ ap (λ (l : List A). take place told ++ l) e)) ∙ at_front (take place told) x later place (length-take place told ∙ omega (arith, le)))
+    ne (ap (λ (l : List A). slice_get l place) (same ∙ (are.split ∙ ap (λ (l : List A). take place told ++ l) e)) ∙ get_after (take place told) x later place (length-take place told ∙ omega (arith, le)))
 
 pub all_first : {A : Type 0} (told all left : List A) (place : ℕ) → AreFirst told all left place → left ≡ [] → place ≡ length told → told ≡ all
 all_first {A} told all left place are none e =

@@ -1,6 +1,4 @@
-pub mod CellLemmas
 pub mod ClosedLemmas
-pub mod WritingLemmas
 pub mod WorkerLemmas
 pub mod SortLemmas
 pub mod ReadingLemmas

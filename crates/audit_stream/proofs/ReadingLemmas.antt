@@ -1,11 +1,9 @@
 -- What is put together is read back.
-use Rattle.std.proofs.Common.{◌≡◌, ◌∙◌, ◌<◌, ◌≤◌, ◌+◌, ◌++◌, ℕ, zero, suc, Bool, true, false, cond, List, [], ◌∷◌, Option, Some, None, refl, sym, ap, subst, arith, length}
+use Rattle.std.proofs.Common.{◌≡◌, ◌∙◌, ◌<◌, ◌+◌, ◌++◌, ℕ, zero, suc, Bool, true, false, cond, List, [], ◌∷◌, Option, Some, None, refl, sym, ap, subst, arith, length}
 use Rattle.std.specs.Prelude.{◌==◌, ⊤, Err, IfOk, Ok, Result, filter}
 use Rattle.std.specs.List.{concat, flat_map, range_with_len}
-use Rattle.std.proofs.lemmas.List.{length-append}
 use Rattle.csv.specs.Machine.{Read, ends_at_end, field_after, fields_after, is_end, next_record, step}
 use Rattle.csv.specs.Reading.{default_config, records, records_from, records_next, strip_bom}
-use Rattle.csv.specs.Writing.{default_writer, fields_text, is_blank, row_body}
 use Rattle.csv.specs.declared.parser.Action.{Action}
 use Rattle.csv.specs.declared.parser.Action.TheVariants as act
 use Rattle.csv.specs.declared.parser.State.{State}
@@ -19,6 +17,8 @@ use Rattle.audit_stream.specs.Together.{by_group, group_count, record_group, in_
 use Rattle.audit_stream.specs.Sorting.{closed_from, closes, group_texts, stop_place, workers_spelled}
 use Rattle.audit_stream.proofs.ClosedLemmas.{ends_closed}
 use Rattle.audit_stream.proofs.SortLemmas.{texts_by_group}
+use Rattle.savepoint.proofs.SaveTextLemmas.{as_long}
+use Rattle.audit_parts.proofs.ReadLemmas.{bare}
 
 -- ---- records have fields
 
@@ -106,20 +106,6 @@ reads_all (suc n) ([] ∷ more) lt h = absurd h.0
 reads_all (suc n) ((x ∷ xs) ∷ more) lt h =
     ap (records_next (records_from default_config n)) (read-write (x ∷ xs) (records_text more))
     ∙ ap (λ (l : List (List (List ℕ))). (x ∷ xs) ∷ l) (reads_all n more (omega arith) h.1)
-
-one_byte : (fields : List (List ℕ)) → 1 ≤ length (record_text fields)
-one_byte fields =
-    let blank : List ℕ = cond (is_blank default_writer fields) (34 ∷ 34 ∷ []) [] in
-    omega (arith, length-append (row_body default_writer fields) (blank ++ (10 ∷ [])), length-append blank (10 ∷ []))
-
-as_long : (rows : List (List (List ℕ))) → length rows ≤ length (records_text rows)
-as_long [] = omega arith
-as_long (fields ∷ more) = omega (arith, one_byte fields, as_long more, length-append (record_text fields) (records_text more))
-
--- no byte order mark stands at its front
-bare : (rows : List (List (List ℕ))) → strip_bom (records_text (audit_header ∷ rows)) ≡ records_text (audit_header ∷ rows)
-unfolding strip_bom is_blank fields_text
-bare rows = refl
 
 read_back : (rows : List (List (List ℕ))) → HaveFields rows → csv_records (records_text (audit_header ∷ rows)) ≡ audit_header ∷ rows
 read_back rows h =

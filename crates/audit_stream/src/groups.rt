@@ -11,8 +11,7 @@ ghost use Rattle.audit_stream.specs.Sorting.{workers_spelled};
 
 use crate::kinds::{closes, is_step};
 use crate::workers::{Spelled, number_of, spelled_workers};
-use crate::writing::append_record;
-use audit_parts::{begins_with, cell};
+use audit_parts::{begins_with, cell, write_record};
 use csv::ByteRecord;
 use jobs::Job;
 use payments::TextRecords;
@@ -104,7 +103,7 @@ fn sort_record(
         OnOk result (texts.new ≡ group_texts workers.now (above ++ fields_of cells.now ∷ [])) }
 {
     let group = group_of(workers, cells, near);
-    append_record(&mut texts[group], cells)?;
+    write_record(&mut texts[group], cells)?;
     Ok(group.saturating_sub(2))
 }
 

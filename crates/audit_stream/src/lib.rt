@@ -15,7 +15,6 @@ mod laws;
 mod places;
 mod together;
 mod workers;
-mod writing;
 
 pub use laws::parts_are_put_together;
 pub use places::record_places;

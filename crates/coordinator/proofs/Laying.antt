@@ -53,13 +53,13 @@ from_source job place number lane edge g n e =
     let same : is.edge ≡ edge = same_some is.edge edge (sym is.edge_is ∙ e) in
     sender_source job edge.from (subst (λ s. IsIn s (senders job edge.from)) (fed_by job place lane g) (subst (λ (x : Edge). IsIn lane.sender (senders job x.from)) same is.sends))
 
-unled : (job : JobView) (node : ℕ) → IsLawful job → is_source_node (slice_get job.nodes node) ≡ true → (a : ℕ) → ¬ HasEdge job.edges a node
+pub unled : (job : JobView) (node : ℕ) → IsLawful job → is_source_node (slice_get job.nodes node) ≡ true → (a : ℕ) → ¬ HasEdge job.edges a node
 unled job node law source a (i, edge, lt, at, (from, to)) =
     let g : slice_get job.edges i ≡ Some edge = slice_get-get_or job.edges i edge lt ∙ ap Some at in
     let k : is_source_node (slice_get job.nodes node) ≡ false = subst (λ v. is_source_node (slice_get job.nodes v) ≡ false) to (unentered job law i edge g) in
     cc
 
-agrees_new : (t : Tuple) (x : Item) → t.trace ≡ [] → Agrees x (Carry t)
+pub agrees_new : (t : Tuple) (x : Item) → t.trace ≡ [] → Agrees x (Carry t)
 agrees_new t (Carry u) e = tt
 agrees_new t (Mark r c) e = rw e (all_of_at _ [] (λ x i. absurd i))
 agrees_new t Last e = tt

@@ -40,7 +40,7 @@ new_feeder feeds outs boxes places row turned = record {
 }
 
 -- the lanes that pass a test, with their numbers
-numbered : (test : Lane → Bool) (n : ℕ) (ls : List Lane) → filter test ls ≡ map (λ (p : ℕ × Lane). p.1) (filter (λ (p : ℕ × Lane). test p.1) (enumerate_from n ls))
+pub numbered : (test : Lane → Bool) (n : ℕ) (ls : List Lane) → filter test ls ≡ map (λ (p : ℕ × Lane). p.1) (filter (λ (p : ℕ × Lane). test p.1) (enumerate_from n ls))
 numbered test n [] = refl
 numbered test n (l ∷ ls) = go (test l) (numbered test (n + 1) ls)
   where

@@ -23,7 +23,8 @@ use Rattle.flow_worker.specs.Parts.{WorkedIs, endpoint_in, endpoint_out}
 use Rattle.lane_core.specs.Lane.{EndpointIs}
 use Rattle.flow_worker.specs.Turning.{IsDone}
 use Rattle.flow_worker.specs.Worker.{IsWorker, Sends, ShowsTaken, WorkerIs}
-use Rattle.flow_worker.proofs.Pairs.{get_map, get_mapped, length_mapped}
+use Rattle.flow_model.proofs.PlaceLemmas.{map_place}
+use Rattle.flow_worker.proofs.Pairs.{get_mapped, length_mapped}
 use Rattle.coordinator.specs.Conservation.{AreFinished}
 use Rattle.coordinator.proofs.Meaning.{puts}
 use Rattle.coordinator.proofs.Conserving.{lane_conserved}
@@ -37,14 +38,14 @@ pub in_lane : (workers : List WorkerIs) (w : ℕ) (worker : WorkerIs) (x : Endpo
     → (k : ℕ) × (a : LaneInIs) × (slice_get worker.ins k ≡ Some a) × (x ≡ endpoint_in a)
 in_lane workers w worker x g (k, h) =
     let there : slice_get (map endpoint_in worker.ins) k ≡ Some x = ap (λ (o : Option SideIs). slice_get (side_ins o) k) (sym (get_mapped worker_side workers w worker g)) ∙ h in
-    let (a, at, e) = get_map endpoint_in worker.ins k x there in
+    let (a, at, e) = map_place endpoint_in worker.ins k x there in
     (k, a, at, e)
 
 pub out_lane : (workers : List WorkerIs) (fed : List EndpointIs) (w : ℕ) (worker : WorkerIs) (x : EndpointIs) → slice_get workers w ≡ Some worker → IsAmong (outs_at (Some w) (map worker_side workers) fed) x
     → (k : ℕ) × (out : LaneOutIs) × (slice_get worker.outs k ≡ Some out) × (x ≡ endpoint_out out)
 out_lane workers fed w worker x g (k, h) =
     let there : slice_get (map endpoint_out worker.outs) k ≡ Some x = ap (λ (o : Option SideIs). slice_get (side_outs o) k) (sym (get_mapped worker_side workers w worker g)) ∙ h in
-    let (out, at, e) = get_map endpoint_out worker.outs k x there in
+    let (out, at, e) = map_place endpoint_out worker.outs k x there in
     (k, out, at, e)
 
 module _ (setup : SetupView) (begin : Begin) (rows : List Row) (workers : List WorkerIs) (feeds : List Feed) (outs : List EndpointIs) (over : IsOver setup begin rows workers feeds outs) where
@@ -84,8 +85,8 @@ module _ (setup : SetupView) (begin : Begin) (rows : List Row) (workers : List W
 
   of_journal : (w : ℕ) (journal : List Entry) → slice_get ran.journals w ≡ Some journal → (worker : WorkerIs) × (slice_get workers w ≡ Some worker) × (journal ≡ worker.journal)
   of_journal w journal g =
-      let (worked, at, e) = get_map (λ (x : WorkedIs). x.journal) (map worked_of workers) w journal g in
-      let (worker, there, f) = get_map worked_of workers w worked at in
+      let (worked, at, e) = map_place (λ (x : WorkedIs). x.journal) (map worked_of workers) w journal g in
+      let (worker, there, f) = map_place worked_of workers w worked at in
       (worker, there, e ∙ ap (λ (x : WorkedIs). x.journal) f)
 
   of_state : (w : ℕ) (worker : WorkerIs) (state : Counts) → slice_get workers w ≡ Some worker → slice_get ran.states w ≡ Some state → state ≡ worker.counts

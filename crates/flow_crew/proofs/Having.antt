@@ -1,5 +1,5 @@
 -- Workers and a feeder with their laws have the endpoints of all lanes.
-use Rattle.std.proofs.Common.{◌≡◌, ◌∙◌, ◌+◌, ◌≤◌, ℕ, zero, suc, List, [], ◌∷◌, Bool, true, false, cond, refl, sym, ap, subst, arith, length, map, filter, Some, slice_get}
+use Rattle.std.proofs.Common.{◌≡◌, ◌∙◌, ◌≤◌, ℕ, zero, suc, List, [], ◌∷◌, refl, sym, ap, subst, arith, length, map, filter, Some, slice_get}
 use Rattle.std.specs.List.{enumerate_from}
 use Rattle.jobs.specs.JobView.{JobView}
 use Rattle.sink_journal.specs.declared.journal.Feed.{Feed}
@@ -15,12 +15,14 @@ use Rattle.flow_worker.specs.Pairs.{EachOne}
 use Rattle.flow_worker.specs.Parts.{endpoint_out}
 use Rattle.lane_core.specs.Lane.{EndpointIs}
 use Rattle.flow_worker.specs.Worker.{WorkerIs, lane_numbers_out}
-use Rattle.flow_worker.proofs.Pairs.{get_map, get_mapped, length_mapped}
+use Rattle.flow_model.proofs.PlaceLemmas.{map_place}
+use Rattle.flow_worker.proofs.Pairs.{get_mapped, length_mapped}
 use Rattle.coordinator.specs.Feeding.{fed_lanes}
 use Rattle.flow_crew.specs.Ended.{IsOver}
 use Rattle.flow_crew.specs.Sides.{AreMatched, HaveAllLanes, SideIs, feeder_sends, numbers_of, worker_side}
 use Rattle.flow_crew.proofs.Crewing.{same_in}
 use Rattle.flow_crew.proofs.Sorting.{each_placed}
+use Rattle.coordinator.proofs.Starting.{numbered}
 
 same_out : (outs : List LaneOutIs) → numbers_of (map endpoint_out outs) ≡ lane_numbers_out outs
 same_out [] = refl
@@ -33,16 +35,6 @@ same_lists [] (y ∷ ys) e f = absurd (omega (arith, e))
 same_lists (x ∷ xs) [] e f = absurd (omega (arith, e))
 same_lists (x ∷ xs) (y ∷ ys) e f = λ i. f zero x y refl refl i ∷ same_lists xs ys (omega (arith, e)) (λ k a b g h. f (suc k) a b g h) i
 
--- the lanes that pass a test, with their numbers
-passing : (test : Lane → Bool) (n : ℕ) (ls : List Lane) → filter test ls ≡ map (λ (p : ℕ × Lane). p.1) (filter (λ (p : ℕ × Lane). test p.1) (enumerate_from n ls))
-passing test n [] = refl
-passing test n (l ∷ ls) = go (test l) (passing test (n + 1) ls)
-  where
-    go : (b : Bool) → filter test ls ≡ map (λ (p : ℕ × Lane). p.1) (filter (λ (p : ℕ × Lane). test p.1) (enumerate_from (n + 1) ls))
-        → cond b (l ∷ filter test ls) (filter test ls) ≡ map (λ (p : ℕ × Lane). p.1) (cond b ((n, l) ∷ filter (λ (p : ℕ × Lane). test p.1) (enumerate_from (n + 1) ls)) (filter (λ (p : ℕ × Lane). test p.1) (enumerate_from (n + 1) ls)))
-    go true h = ap (λ t. l ∷ t) h
-    go false h = h
-
 -- the numbers of the lanes of the feeder, by the lanes themselves
 fed_numbers : (job : JobView) (ns : List ℕ) → length ns ≡ length (fed_lanes job) → ((k n : ℕ) (lane : Lane) → slice_get ns k ≡ Some n → slice_get (fed_lanes job) k ≡ Some lane → slice_get (lanes job) n ≡ Some lane) → ns ≡ lanes_that feeder_sends job
 fed_numbers job ns many at = same_lists ns (lanes_that feeder_sends job) long same
@@ -52,13 +44,13 @@ fed_numbers job ns many at = same_lists ns (lanes_that feeder_sends job) long sa
 
     long : length ns ≡ length (lanes_that feeder_sends job)
     long =
-        many ∙ (ap (λ (l : List Lane). length l) (passing feeder_sends 0 (lanes job))
+        many ∙ (ap (λ (l : List Lane). length l) (numbered feeder_sends 0 (lanes job))
         ∙ (length_mapped (λ (p : ℕ × Lane). p.1) among ∙ sym (length_mapped (λ (p : ℕ × Lane). p.0) among)))
 
     same : (k n m : ℕ) → slice_get ns k ≡ Some n → slice_get (lanes_that feeder_sends job) k ≡ Some m → n ≡ m
     same k n m g h =
-        let (p, there, number) = get_map (λ (p : ℕ × Lane). p.0) among k m h in
-        let lane : slice_get (fed_lanes job) k ≡ Some p.1 = ap (λ (l : List Lane). slice_get l k) (passing feeder_sends 0 (lanes job)) ∙ get_mapped (λ (p : ℕ × Lane). p.1) among k p there in
+        let (p, there, number) = map_place (λ (p : ℕ × Lane). p.0) among k m h in
+        let lane : slice_get (fed_lanes job) k ≡ Some p.1 = ap (λ (l : List Lane). slice_get l k) (numbered feeder_sends 0 (lanes job)) ∙ get_mapped (λ (p : ℕ × Lane). p.1) among k p there in
         let i = in_enumerate 0 (lanes job) p (in_filter (λ (p : ℕ × Lane). feeder_sends p.1) p (enumerate_from 0 (lanes job)) (in_of_place p among k there)).0 in
         let e : i.0 ≡ m = omega (arith, i.1, number) in
         same_number job p.1 p.1 n m (at k n p.1 g lane) (subst (λ j. slice_get (lanes job) j ≡ Some p.1) e i.2) refl
@@ -68,10 +60,10 @@ module _ (setup : SetupView) (begin : Begin) (rows : List Row) (workers : List W
   have_all = record {
     many = length_mapped worker_side workers ∙ over.crew.many;
     ins = λ w side g.
-        let (worker, at, e) = get_map worker_side workers w side g in
+        let (worker, at, e) = map_place worker_side workers w side g in
         ap (λ (s : SideIs). numbers_of s.ins) e ∙ (same_in worker.ins ∙ ((over.crew.law w worker at).placed.ins_are ∙ ap (lanes_in setup.job) (over.crew.number w worker at)));
     outs = λ w side g.
-        let (worker, at, e) = get_map worker_side workers w side g in
+        let (worker, at, e) = map_place worker_side workers w side g in
         ap (λ (s : SideIs). numbers_of s.outs) e ∙ (same_out worker.outs ∙ ((over.crew.law w worker at).placed.outs_are ∙ ap (out_numbers setup.job) (over.crew.number w worker at)));
     feeder = fed_numbers setup.job (numbers_of outs) long numbered;
   }
@@ -83,7 +75,7 @@ module _ (setup : SetupView) (begin : Begin) (rows : List Row) (workers : List W
 
       numbered : (k n : ℕ) (lane : Lane) → slice_get (numbers_of outs) k ≡ Some n → slice_get (fed_lanes setup.job) k ≡ Some lane → slice_get (lanes setup.job) n ≡ Some lane
       numbered k n lane g h =
-          let (x, at, e) = get_map (λ (x : EndpointIs). x.number) outs k n g in
+          let (x, at, e) = map_place (λ (x : EndpointIs). x.number) outs k n g in
           let is = over.feeding.outs k lane x h (ap (λ l. slice_get l k) (sym over.outs_are) ∙ at) in
           ap (slice_get (lanes setup.job)) e ∙ is.numbered
 

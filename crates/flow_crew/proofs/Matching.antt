@@ -4,13 +4,14 @@ use Rattle.lane_core.specs.Lane.{EndIs, EndpointIs, LaneId, end_of}
 use Rattle.flow_worker.specs.Endpoints.{LaneInIs, LaneOutIs}
 use Rattle.flow_worker.specs.Parts.{endpoint_in, endpoint_out}
 use Rattle.flow_worker.specs.Worker.{WorkerIs}
-use Rattle.flow_worker.proofs.Pairs.{get_map, get_mapped}
+use Rattle.flow_model.proofs.PlaceLemmas.{map_place}
+use Rattle.flow_worker.proofs.Pairs.{get_mapped}
 use Rattle.flow_crew.specs.Sides.{AreMatched, ins_at, IsAmong, lane_ids, outs_at, side_ins, side_outs, SideIs, worker_side}
 use Rattle.flow_crew.proofs.Ending.{in_lane, out_lane}
 
 -- an item of a list with the same view as another list: the other has one with its view at its place
 seen : {A B : Type 0} (f : A → B) (xs ys : List A) (k : ℕ) (y : A) → map f ys ≡ map f xs → slice_get ys k ≡ Some y → (x : A) × (slice_get xs k ≡ Some x) × (f y ≡ f x)
-seen f xs ys k y e g = get_map f xs k (f y) (ap (λ l. slice_get l k) (sym e) ∙ get_mapped f ys k y g)
+seen f xs ys k y e g = map_place f xs k (f y) (ap (λ l. slice_get l k) (sym e) ∙ get_mapped f ys k y g)
 
 -- the endpoint is among these, but for its items
 record IsSeen (ends : List EndpointIs) (end : EndpointIs) : Type 0 where
@@ -23,11 +24,11 @@ module _ (workers later : List WorkerIs) (outs left : List EndpointIs) (same : m
   -- the worker with the same number, before
   worker_seen : (w k : ℕ) (x : EndpointIs) (o : Option SideIs) → slice_get (map worker_side later) w ≡ o → slice_get (side_ins o) k ≡ Some x → (v : WorkerIs) × (slice_get later w ≡ Some v)
   worker_seen w k x None e g = absurd (cc)
-  worker_seen w k x (Some side) e g = let (v, at, f) = get_map worker_side later w side e in (v, at)
+  worker_seen w k x (Some side) e g = let (v, at, f) = map_place worker_side later w side e in (v, at)
 
   sender_seen : (w k : ℕ) (x : EndpointIs) (o : Option SideIs) → slice_get (map worker_side later) w ≡ o → slice_get (side_outs o) k ≡ Some x → (v : WorkerIs) × (slice_get later w ≡ Some v)
   sender_seen w k x None e g = absurd (cc)
-  sender_seen w k x (Some side) e g = let (v, at, f) = get_map worker_side later w side e in (v, at)
+  sender_seen w k x (Some side) e g = let (v, at, f) = map_place worker_side later w side e in (v, at)
 
   rx_seen : (w : ℕ) (x : EndpointIs) → IsAmong (ins_at w (map worker_side later)) x → IsSeen (ins_at w (map worker_side workers)) x
   rx_seen w x (k, g) =

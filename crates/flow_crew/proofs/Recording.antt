@@ -29,9 +29,7 @@ use Rattle.flow_worker.specs.Endpoints.{LaneInIs, LaneOutIs, in_hand, planned}
 use Rattle.flow_worker.specs.Pairs.{EachOne}
 use Rattle.flow_worker.specs.Worker.{IsEndpointIn, IsEndpointOut, IsPlaced, IsWorker, WorkerIs, edges_of, view_now, progress_now}
 use Rattle.flow_crew.specs.Crews.{IsCrew}
-
-same_some : {A : Type 0} (x y : A) → Some x ≡ Some y → x ≡ y
-same_some x y e = cc
+use Rattle.coordinator.proofs.ListLemmas.{same_some}
 
 abbrev changes_of : List Request → List (List Change)
 changes_of requests = map (λ (request : Request). request.changes) requests

@@ -17,15 +17,12 @@ use Rattle.flow_model.specs.SetupView.{SetupView}
 use Rattle.flow_model.specs.declared.setup.Setup.{Setup}
 use Rattle.flow_model.proofs.PlannedLemmas.{has_covers}
 use Rattle.savepoint.specs.Parts.{first_of, joined, start_of}
-use Rattle.savepoint.proofs.CutLemmas.{take_get}
 use Rattle.stream_law.specs.Stream.{IsNextPart, RunPart, SoFar}
 use Rattle.stream_law.proofs.ExtendedLemmas.{first_extended}
 use Rattle.stream_law.proofs.NextLemmas.{next_run}
 use Rattle.stream_border.proofs.ExactLemmas.{exact_first, exact_next}
 use Rattle.flow_exact.specs.inner.Course.{IsExactRun}
-
-pub rows_take : (n : ℕ) (rows : List Row) → AreRows rows → AreRows (take n rows)
-rows_take n rows are place row g = are place row (take_get n place rows row g)
+use Rattle.savepoint.proofs.PartsLemmas.{AreRows-take}
 
 pub one_each : (setup : Setup) → length (setup_view setup).plans
     ≡ length (setup_view setup).requests
@@ -54,7 +51,7 @@ module _ (rows : List Row) (old : SetupView) (setup : Setup) (fed row : ℕ) (ra
 
   next : IsNextPart so_far part
   next = record {
-    numbered = rows_take row rows numbered;
+    numbered = AreRows-take row rows numbered;
     rows_begin = ap (λ k. take k (take row rows)) fed_is ∙ take-take fed row rows more;
     requests_begin = begins;
     due =

@@ -1,5 +1,5 @@
 -- Requests that are issued one by one, in their order.
-use Rattle.std.proofs.Common.{◌≡◌, ◌∙◌, ◌≤◌, ◌<◌, ◌+◌, ◌++◌, ℕ, zero, suc, List, [], ◌∷◌, Some, ap}
+use Rattle.std.proofs.Common.{◌≡◌, ◌∙◌, ◌≤◌, ◌<◌, ◌+◌, ◌++◌, ℕ, List, [], ◌∷◌, Some, ap}
 use Rattle.std.proofs.Common.{arith, drop, length, refl, slice_get, slice_index_or, subst, sym}
 use Rattle.std.proofs.Common.{take}
 use Rattle.std.proofs.Math.Logic.{∥∥₁_map}
@@ -14,7 +14,7 @@ use Rattle.flow_model.specs.Planned.{IsPlanned, extended}
 use Rattle.flow_model.specs.Setup.{setup_view}
 use Rattle.flow_model.specs.SetupView.{SetupView}
 use Rattle.flow_model.specs.declared.setup.Setup.{Setup}
-use Rattle.flow_model.proofs.TopologyLemmas.{take-next}
+use Rattle.flow_model.proofs.TopologyLemmas.{drop-at, take-next}
 use Rattle.savepoint.specs.Parts.{first_of}
 use Rattle.savepoint.proofs.CutLemmas.{AreAccepted-take, IsPlanned-first_of}
 use Rattle.flow_exact.specs.inner.Course.{with_requests}
@@ -25,20 +25,12 @@ pub in_order_before : (a b : ℕ) (requests : List Request) → a ≤ b → AreI
 in_order_before a b [] le is = tt
 in_order_before a b (request ∷ later) le is = (omega (arith, le, is.0), is.1)
 
-pub drop-next : {A : Type 0} (xs : List A) (i : ℕ) (x : A) → slice_get xs i ≡ Some x
-    → drop i xs ≡ x ∷ drop (i + 1) xs
-drop-next [] i x e = absurd (cc e)
-drop-next (y ∷ xs) zero x e = (let same : y ≡ x = cc in ap (λ z. z ∷ xs) same)
-drop-next (y ∷ xs) (suc i) x e =
-    let same : suc (i + 1) ≡ suc i + 1 = omega arith in
-    drop-next xs i x e ∙ ap (λ k. x ∷ drop k (y ∷ xs)) same
-
 -- the next request waits for this row or a later one
 pub waits_next : (row i : ℕ) (requests : List Request) (request : Request)
     → slice_get requests i ≡ Some request → AreInOrder row (drop i requests)
     → row ≤ request.after
 waits_next row i requests request e is =
-    (subst (AreInOrder row) (drop-next requests i request e) is).0
+    (subst (AreInOrder row) (drop-at requests i request e) is).0
 
 -- the requests after it are in order after each row that it waits for
 pub in_order_next : (row new i : ℕ) (requests : List Request) (request : Request)
@@ -46,7 +38,7 @@ pub in_order_next : (row new i : ℕ) (requests : List Request) (request : Reque
     → new ≤ request.after → AreInOrder new (drop (i + 1) requests)
 in_order_next row new i requests request e is le =
     in_order_before new request.after (drop (i + 1) requests) le
-    (subst (AreInOrder row) (drop-next requests i request e) is).1
+    (subst (AreInOrder row) (drop-at requests i request e) is).1
 
 -- the first requests of a setup and the next one are its first requests too
 pub first_next : (whole : SetupView) (i : ℕ) (request : Request) (plan : Plan)

@@ -22,13 +22,14 @@ use Rattle.flow_model.specs.declared.topology.OutEdge.{OutEdge}
 use Rattle.flow_worker.proofs.OutLanes.{lanes_out-rows}
 use Rattle.flow_model.proofs.RouteLemmas.{IsReached, found_out, is_reached, no_out}
 use Rattle.flow_worker.specs.Steps.{place_from}
-use Rattle.flow_worker.proofs.Pairs.{front, get_map, get_mapped, length_mapped}
+use Rattle.flow_worker.proofs.Pairs.{front, get_mapped, length_mapped}
+use Rattle.flow_model.proofs.PlaceLemmas.{get_left, map_place}
 
 -- ---- the edges out
 
 exit_edge : (job : JobView) (node i : ℕ) (exit : OutEdge) → slice_get (out_edges job node) i ≡ Some exit → exit.edge < length job.edges
 exit_edge job node i exit g =
-    let p = get_map (out_edge job) (filter (λ (p : ℕ × Edge). p.1.from == node) (enumerate_from 0 job.edges)) i exit g in
+    let p = map_place (out_edge job) (filter (λ (p : ℕ × Edge). p.1.from == node) (enumerate_from 0 job.edges)) i exit g in
     let q = in_enumerate 0 job.edges p.0 (in_filter (λ (p : ℕ × Edge). p.1.from == node) p.0 (enumerate_from 0 job.edges) (in_of_place p.0 (filter (λ (p : ℕ × Edge). p.1.from == node) (enumerate_from 0 job.edges)) i p.1)).0 in
     let number : exit.edge ≡ p.0.0 = ap (λ (x : OutEdge). x.edge) p.2 in
     omega (arith, number, q.1, slice_get_within job.edges q.0 p.0.1 q.2)
@@ -47,7 +48,7 @@ pub one_receiver : (job : JobView) (node i : ℕ) (exits : List OutEdge) (d : Ou
 one_receiver job node i exits d tuple law same l one =
     let exit : OutEdge = get_or exits i d in
     let edges : List (ℕ × Edge) = filter (λ (p : ℕ × Edge). p.1.from == node) (enumerate_from 0 job.edges) in
-    let p = get_map (out_edge job) edges i exit (subst (λ xs. slice_get xs i ≡ Some exit) same (there exits i l)) in
+    let p = map_place (out_edge job) edges i exit (subst (λ xs. slice_get xs i ≡ Some exit) same (there exits i l)) in
     let q = in_enumerate 0 job.edges p.0 (in_filter (λ (p : ℕ × Edge). p.1.from == node) p.0 (enumerate_from 0 job.edges) (in_of_place p.0 edges i p.1)).0 in
     let at : slice_get job.edges p.0.0 ≡ Some p.0.1 = subst (λ n. slice_get job.edges n ≡ Some p.0.1) (let e = q.1 in omega (arith, e)) q.2 in
     let reached = is_reached job p.0.0 p.0.1 tuple (worker_along job p.0.0 tuple) law at refl in
@@ -97,11 +98,6 @@ lane_to sender p who = record { edge = p.0; sender = sender; receiver = who.numb
 
 abbrev rows : JobView → Option ℕ → List (ℕ × Edge) → List Lane
 rows job sender edges = flat_map (λ (p : ℕ × Edge). lanes_row job p.0 p.1 sender) edges
-
-front_part : {A : Type 0} (xs ys : List A) (k : ℕ) (x : A) → slice_get xs k ≡ Some x → slice_get (xs ++ ys) k ≡ Some x
-front_part [] ys k x g = absurd (cc)
-front_part (y ∷ xs) ys zero x g = g
-front_part (y ∷ xs) ys (suc k) x g = front_part xs ys k x g
 
 back_part : {A : Type 0} (xs ys : List A) (n k : ℕ) (x : A) → length xs ≡ n → slice_get ys k ≡ Some x → slice_get (xs ++ ys) (n + k) ≡ Some x
 back_part [] ys n k x l g = subst (λ m. slice_get ys m ≡ Some x) (omega arith) g
@@ -158,7 +154,7 @@ found_at job sender law first port tuple (p ∷ edges) place f e =
       along = ap (option_map (λ (who : WorkerOf). lane_to sender p who)) reached.reached;
       k = worker;
       place_is = let r : first + worker ≡ place = cc in sym r;
-      stands = front_part (lanes_row job p.0 p.1 sender) (rows job sender edges) worker (lane_to sender p to)
+      stands = get_left (lanes_row job p.0 p.1 sender) (rows job sender edges) worker (lane_to sender p to)
           (get_mapped (λ (who : WorkerOf). lane_to sender p who) (workers_at_node job p.1.to) worker to (ap (slice_get (workers_at_node job p.1.to)) same ∙ reached.reached));
     }
     go false q e rec =
@@ -228,7 +224,7 @@ filtered {A} test m (x ∷ xs) k p g = go (test x) k g (λ j q. filtered test (m
 pub lane_at : (job : JobView) (w k number : ℕ) → slice_get (out_numbers job w) k ≡ Some number → (lane : Lane) × (slice_get (lanes_out job w) k ≡ Some lane) × (slice_get (lanes job) number ≡ Some lane)
 lane_at job w k number g =
     let test : Lane → Bool = λ (lane : Lane). is_sender w lane.sender in
-    let p = get_map (λ (p : ℕ × Lane). p.0) (filter (λ (p : ℕ × Lane). test p.1) (enumerate_from 0 (lanes job))) k number g in
+    let p = map_place (λ (p : ℕ × Lane). p.0) (filter (λ (p : ℕ × Lane). test p.1) (enumerate_from 0 (lanes job))) k number g in
     let q = in_enumerate 0 (lanes job) p.0 (in_filter (λ (p : ℕ × Lane). test p.1) p.0 (enumerate_from 0 (lanes job)) (in_of_place p.0 (filter (λ (p : ℕ × Lane). test p.1) (enumerate_from 0 (lanes job))) k p.1)).0 in
     (p.0.1, filtered test 0 (lanes job) k p.0 p.1, subst (λ n. slice_get (lanes job) n ≡ Some p.0.1) (let a = q.1 in let b = p.2 in omega arith) q.2)
 

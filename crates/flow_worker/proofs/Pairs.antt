@@ -170,8 +170,3 @@ get_mapped f (y ∷ xs) (suc k) x g = get_mapped f xs k x g
 pub length_mapped : {A B : Type 0} (f : A → B) (xs : List A) → length (map f xs) ≡ length xs
 length_mapped f [] = refl
 length_mapped f (x ∷ xs) = ap suc (length_mapped f xs)
-
-pub get_map : {A B : Type 0} (f : A → B) (xs : List A) (k : ℕ) (y : B) → slice_get (map f xs) k ≡ Some y → (x : A) × (slice_get xs k ≡ Some x) × (y ≡ f x)
-get_map f [] k y g = absurd (cc)
-get_map f (x ∷ xs) zero y g = (x, refl, (let e : f x ≡ y = cc in sym e))
-get_map f (x ∷ xs) (suc k) y g = get_map f xs k y g

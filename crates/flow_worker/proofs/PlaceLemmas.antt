@@ -21,7 +21,8 @@ use Rattle.flow_model.proofs.WorkerLemmas.{worker_with}
 use Rattle.flow_model.proofs.OutLanes.{on_passing, out_distinct}
 use Rattle.flow_worker.specs.Endpoints.{LaneInIs, LaneOutIs}
 use Rattle.flow_worker.specs.Worker.{IsEndpointIn, IsEndpointOut, IsPlaced, WorkerIs, edges_of, lane_numbers_in}
-use Rattle.flow_worker.proofs.Pairs.{each_at, each_map, each_of, get_map}
+use Rattle.flow_model.proofs.PlaceLemmas.{map_place}
+use Rattle.flow_worker.proofs.Pairs.{each_at, each_map, each_of}
 
 -- the numbered lanes that pass a test, with their numbers
 abbrev pub passing : (Lane → Bool) → JobView → List (ℕ × Lane)
@@ -100,7 +101,7 @@ module _ (setup : SetupView) (who : WorkerOf) (w : WorkerIs) (k : IsPlaced setup
       let there : (q.0.receiver == w.number) ≡ true = subst (λ m. (q.0.receiver == m) ≡ true) number_is parts.0 in
       let among : IsIn n (lane_numbers_in w.ins) = subst (IsIn n) (sym k.ins_are) (lanes_that_in (λ (lane : Lane). lane.receiver == w.number) setup.job n q.0 q.1 there) in
       let place = place_of_in n (lane_numbers_in w.ins) among in
-      let at = get_map (λ (a : LaneInIs). a.number) w.ins place.0 n place.1 in
+      let at = map_place (λ (a : LaneInIs). a.number) w.ins place.0 n place.1 in
       let e = in_end at.0 (in_of_place at.0 w.ins place.0 at.1) in
       let x : slice_get (lanes setup.job) n ≡ Some e.lane = subst (λ m. slice_get (lanes setup.job) m ≡ Some e.lane) (sym at.2) e.numbered in
       let y = q.1 in

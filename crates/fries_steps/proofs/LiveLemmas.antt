@@ -1,5 +1,5 @@
 -- What a live run of the judged requests is.
-use Rattle.std.proofs.Common.{◌≡◌, ◌∙◌, ◌+◌, ◌≤◌, ◌||◌, ◌++◌, ℕ, zero, suc, Bool, true, false, List, [], ◌∷◌, Option, Some, None, All, length, ap, arith, refl, subst, sym, take, slice_get}
+use Rattle.std.proofs.Common.{◌≡◌, ◌∙◌, ◌+◌, ◌≤◌, ◌||◌, ℕ, zero, suc, Bool, true, false, List, [], ◌∷◌, All, length, ap, arith, refl, subst, sym, take, slice_get}
 use Rattle.std.specs.Prelude.{◌↔◌, IsTrue}
 use Rattle.std.specs.List.{list_any}
 use Rattle.jobs.specs.Nodes.{AreFromSources}
@@ -27,7 +27,7 @@ use Rattle.flow_plans.specs.Determined.{NumbersAllNodes}
 use Rattle.flow_engine.specs.Recorded.{NoneIsEarly}
 use Rattle.live_control.specs.Asking.{AsksIs}
 use Rattle.live_control.specs.Hearing.{IsHeard}
-use Rattle.live_control.specs.Line.{InboxIs, last_from, last_load}
+use Rattle.live_control.specs.Line.{InboxIs, last_load}
 use Rattle.live_control.specs.declared.hearing.Heard.{Heard}
 use Rattle.fries_steps.specs.Live.{AreReleased, IsLiveRun}
 use Rattle.fries_steps.specs.inner.Beside.{IsFlownLive}
@@ -35,34 +35,35 @@ use Rattle.fries_steps.specs.Running.{IsDoneOf, IsRunOf}
 use Rattle.fries_steps.specs.SetupFor.{AreSame, IsSetupFor}
 use Rattle.fries_steps.specs.declared.running.Done.{Done}
 use Rattle.fries_steps.proofs.RunLemmas.{HasLaws, is_run_of, run_so}
+use Rattle.live_control.proofs.LoadLemmas.{last_from-push}
 
 -- ---- requests that wait for other rows
 
-any_waiting : (test : List Change → Bool) (waits : List ℕ) (qs : List Request) → list_any (λ (q : Request). test q.changes) (with_afters waits qs) ≡ list_any (λ (q : Request). test q.changes) qs
+pub any_waiting : (test : List Change → Bool) (waits : List ℕ) (qs : List Request) → list_any (λ (q : Request). test q.changes) (with_afters waits qs) ≡ list_any (λ (q : Request). test q.changes) qs
 any_waiting test [] qs = refl
 any_waiting test (w ∷ ws) [] = refl
 any_waiting test (w ∷ ws) (q ∷ qs) = ap (λ b. test q.changes || b) (any_waiting test ws qs)
 
-any_first : (test : List Change → Bool) (n : ℕ) (waits : List ℕ) (qs : List Request) → list_any (λ (q : Request). test q.changes) (take n (with_afters waits qs)) ≡ list_any (λ (q : Request). test q.changes) (take n qs)
+pub any_first : (test : List Change → Bool) (n : ℕ) (waits : List ℕ) (qs : List Request) → list_any (λ (q : Request). test q.changes) (take n (with_afters waits qs)) ≡ list_any (λ (q : Request). test q.changes) (take n qs)
 any_first test zero waits qs = refl
 any_first test (suc n) [] qs = refl
 any_first test (suc n) (w ∷ ws) [] = refl
 any_first test (suc n) (w ∷ ws) (q ∷ qs) = ap (λ b. test q.changes || b) (any_first test n ws qs)
 
-named_waiting : (waits : List ℕ) (qs : List Request) (r node : ℕ) → is_named_by (slice_get (with_afters waits qs) r) node ≡ is_named_by (slice_get qs r) node
+pub named_waiting : (waits : List ℕ) (qs : List Request) (r node : ℕ) → is_named_by (slice_get (with_afters waits qs) r) node ≡ is_named_by (slice_get qs r) node
 named_waiting [] qs r node = refl
 named_waiting (w ∷ ws) [] r node = refl
 named_waiting (w ∷ ws) (q ∷ qs) zero node = refl
 named_waiting (w ∷ ws) (q ∷ qs) (suc r) node = named_waiting ws qs r node
 
-planned_waiting : (ordered : Bool) (waits : List ℕ) (qs : List Request) (r node : ℕ) → is_planned ordered (with_afters waits qs) r node ≡ is_planned ordered qs r node
+pub planned_waiting : (ordered : Bool) (waits : List ℕ) (qs : List Request) (r node : ℕ) → is_planned ordered (with_afters waits qs) r node ≡ is_planned ordered qs r node
 planned_waiting true waits qs r node = any_first (λ cs. is_named cs node) (r + 1) waits qs
 planned_waiting false waits qs r node = named_waiting waits qs r node
 
-splits_waiting : (v : SetupView) (waits : List ℕ) (node : ℕ) → splits_at v.job.nodes (with_afters waits v.requests) node ≡ splits_at v.job.nodes v.requests node
+pub splits_waiting : (v : SetupView) (waits : List ℕ) (node : ℕ) → splits_at v.job.nodes (with_afters waits v.requests) node ≡ splits_at v.job.nodes v.requests node
 splits_waiting v waits node = ap (λ b. is_split_node (slice_get v.job.nodes node) || b) (any_waiting (λ cs. list_any (makes_split node) cs) waits v.requests)
 
-exact_waiting : (v : SetupView) (waits : List ℕ) → IsExact v → IsExact (waiting_for waits v)
+pub exact_waiting : (v : SetupView) (waits : List ℕ) → IsExact v → IsExact (waiting_for waits v)
 exact_waiting v waits is = record {
   splits = λ node. subst (λ b. Has v.splits node ↔ IsTrue b) (sym (splits_waiting v waits node)) (is.splits node);
   plans = record {
@@ -74,7 +75,7 @@ exact_waiting v waits is = record {
   };
 }
 
-least_waiting : (v : SetupView) (waits : List ℕ) → ArePlansLeast v → ArePlansLeast (waiting_for waits v)
+pub least_waiting : (v : SetupView) (waits : List ℕ) → ArePlansLeast v → ArePlansLeast (waiting_for waits v)
 least_waiting v waits least zero plan g = least zero plan g
 least_waiting v waits least (suc r) plan g = least (suc r) plan g
 
@@ -98,12 +99,8 @@ setup_released job requests rows setup left inbox rest feeds crew is flown =
 
 -- ---- what was heard
 
-last_one : (n : ℕ) (earlier : List ℕ) (load : ℕ) → last_from n (earlier ++ load ∷ []) ≡ load
-last_one n [] load = refl
-last_one n (x ∷ earlier) load = last_one x earlier load
-
 pub last_reaches : (r : ℕ) (loads : List ℕ) → LastAtLeast r loads → r ≤ last_load loads
-last_reaches r loads (earlier, load, are, le) = (let e : last_load loads ≡ load = ap last_load are ∙ last_one 0 earlier load in omega (arith, e, le))
+last_reaches r loads (earlier, load, are, le) = (let e : last_load loads ≡ load = ap last_load are ∙ last_from-push 0 earlier load in omega (arith, e, le))
 
 -- what the engine and the reader leave is a live run
 pub live_of : (job : JobView) (requests : List Request) (rows : List Row) (setup left : Setup) (inbox rest : InboxIs) (feeds : List Feed) (crew : List WorkedIs) (ran : RunRecord) (done : Done) (heard : Heard) (was now : AsksIs)

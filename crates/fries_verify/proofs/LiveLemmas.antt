@@ -31,7 +31,8 @@ use Rattle.stream_intake.specs.Intake.{IsMaskOfNodes}
 use Rattle.fries_verify.specs.Audits.{IsAuditedBy, IsAuditedRun, IsNoAudit, Subject}
 use Rattle.fries_verify.specs.StreamSetup.{IsStreamSetupFor}
 use Rattle.fries_verify.proofs.AuditLemmas.{IsFaultIn}
-use Rattle.fries_verify.proofs.WaitingLemmas.{exact_waiting, least_waiting, stream_exact_waiting}
+use Rattle.fries_steps.proofs.LiveLemmas.{exact_waiting, least_waiting}
+use Rattle.fries_verify.proofs.WaitingLemmas.{stream_exact_waiting}
 
 -- the setup with the waits of a feed is that of the job and the released requests, if such plans
 -- don't go by what requests wait for

@@ -54,7 +54,7 @@ any_take test n xs e =
     ap (list_any test) (sym (take-append-drop n xs))
     ∙ (list_any-append test (take n xs) (drop n xs) ∙ ap (λ b. b || list_any test (drop n xs)) e)
 
-or_weaker : (a b c : Bool) → (b ≡ true → c ≡ true) → (a || b) ≡ true → (a || c) ≡ true
+pub or_weaker : (a b c : Bool) → (b ≡ true → c ≡ true) → (a || b) ≡ true → (a || c) ≡ true
 or_weaker true b c f e = refl
 or_weaker false b c f e = f e
 

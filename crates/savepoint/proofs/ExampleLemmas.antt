@@ -22,10 +22,10 @@ use Rattle.flow_model.proofs.LawChecks.{finished-by_check}
 use Rattle.savepoint.specs.Parts.{AreParts, first_of, joined, start_of}
 use Rattle.savepoint.specs.TwoHalves.{first_half, second_half, second_to, has_count, tallied_row, tallied, tally_setup, two_named_rows, whole}
 
-none_yet : get {R = slice_cmp nat_cmp} (empty {X = ℤ}) (codes "ann") ≡ None
+pub none_yet : get {R = slice_cmp nat_cmp} (empty {X = ℤ}) (codes "ann") ≡ None
 none_yet = get-empty (slice_cmp nat_cmp) (codes "ann")
 
-one_yet : get (has_count (pos 1)) (codes "ann") ≡ Some (pos 1)
+pub one_yet : get (has_count (pos 1)) (codes "ann") ≡ Some (pos 1)
 one_yet = get-insert nat_list_cmp_total empty (codes "ann") (pos 1) (codes "ann")
 
 first_worked : OfEach (Worked (first_of tally_setup 1)) (workers_in tallied) (at_first tally_setup).states first_half.journals first_half.states

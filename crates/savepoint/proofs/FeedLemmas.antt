@@ -284,7 +284,7 @@ count_after xs r row rows (suc left) =
     count_after xs r (row + 1) rows left ∙ ap (λ k. count_to k rows xs) e in
     omega arith
 
-count_all : (rows : ℕ) (xs : List ℕ) → count_to rows rows xs ≡ length xs
+pub count_all : (rows : ℕ) (xs : List ℕ) → count_to rows rows xs ≡ length xs
 count_all rows [] = refl
 count_all rows (x ∷ xs) = rw (le-leb (min x rows) rows (omega arith)) (ap suc (count_all rows xs))
 

@@ -23,7 +23,7 @@ use Rattle.savepoint.proofs.CutLemmas.{AreAccepted-take, IsPlanned-first_of, tak
 use Rattle.savepoint.proofs.JoinLemmas.{Kept, joined_run}
 use Rattle.savepoint.proofs.OrderLemmas.{are_split}
 
-AreRows-take : (n : ℕ) (rows : List Row) → AreRows rows → AreRows (take n rows)
+pub AreRows-take : (n : ℕ) (rows : List Row) → AreRows rows → AreRows (take n rows)
 AreRows-take n rows are place row g = are place row (take_get n place rows row g)
 
 pub counted_le : (row rows : ℕ) (requests : List Request) → issued_up_to row rows (afters requests) ≤ length requests

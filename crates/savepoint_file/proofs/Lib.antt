@@ -3,6 +3,5 @@ pub mod CellLemmas
 pub mod ReadLemmas
 pub mod OrderLemmas
 pub mod NamedLemmas
-pub mod SpellingLemmas
 pub mod IssuedLemmas
 pub mod SheetLemmas

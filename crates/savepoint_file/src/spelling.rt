@@ -6,7 +6,7 @@ ghost use Rattle.savepoint.specs.SaveReading.{head_number as head_number_of};
 use tuple_trace::digits_up_to;
 
 /// The number that a cell spells: an optional `-` and digits. `None` if it is no `i64`.
-#[tactic(auto, using(crate::proofs::SpellingLemmas::with_sign_read))]
+#[tactic(auto, using(payments::proofs::SpellingLemmas::with_sign_at_most))]
 pub(crate) fn number(text: &[u8]) -> Option<i64>
     ensures { result ≡ number_in_text text.now }
 {

@@ -1,5 +1,5 @@
 -- Where a row is new, worker by worker and entry by entry.
-use Rattle.std.proofs.Common.{◌≡◌, ◌∙◌, ◌+◌, ◌==◌, ◌||◌, ◌&&◌, ℕ, zero, suc, Bool, true, false, List, [], ◌∷◌, Option, Some, None, refl, sym, ap, arith, cond, drop, filter, length, map, replicate, slice_get}
+use Rattle.std.proofs.Common.{◌≡◌, ◌∙◌, ◌+◌, ◌==◌, ◌||◌, ◌&&◌, ℕ, suc, Bool, true, false, List, [], ◌∷◌, Option, Some, None, refl, sym, ap, arith, cond, drop, filter, length, map, replicate, slice_get}
 use Rattle.std.specs.List.{list_any}
 use Rattle.std.proofs.lemmas.Option.{same_Some}
 use Rattle.sink_journal.specs.declared.journal.Entry.{Entry}
@@ -12,6 +12,7 @@ use Rattle.flow_model.specs.Serial.{newest}
 use Rattle.flow_model.specs.Whole.{after_turn, any_after, is_new, is_turn, journals_at, meets_row}
 use Rattle.serial_order.specs.Places.{meets_new, rows_numbered, row_met}
 use Rattle.serial_order.proofs.NumberedLemmas.{none_pass, numbered-same, numbered-split}
+use Rattle.flow_model.proofs.TopologyLemmas.{drop-at}
 
 -- ---- a journal
 
@@ -94,13 +95,6 @@ new_among ran request row (who ∷ workers) = go (changes ran.setup request who.
     go true None e h = rw e h
     go true (Some journal) e h = rw e (ap (λ b. meets_row row (after_turn request journal) || b) h)
 
--- a row that a worker meets
-pub drop_get : {A : Type 0} (xs : List A) (i : ℕ) (x : A) → slice_get xs i ≡ Some x → drop i xs ≡ x ∷ drop (i + 1) xs
-drop_get [] i x g = absurd (cc)
-drop_get (y ∷ xs) zero x g = let e : y ≡ x = cc in ap (λ z. z ∷ xs) e
-drop_get (y ∷ xs) (suc i) x g =
-    let e : suc (i + 1) ≡ suc i + 1 = omega arith in drop_get xs i x g ∙ ap (λ n. x ∷ drop n (y ∷ xs)) e
-
 -- the next worker is of a node that the request changes
 pub worker-changed : (ran : Ran) (request w : ℕ) (workers : List Worker) (who : Worker) (xs : List ℕ) → slice_get workers w ≡ Some who → who.number ≡ w → changes ran.setup request who.node ≡ true
     → rows_numbered (λ row. list_any (is_new_at ran request row) (drop (w + 1) workers)) request 1 (rows_numbered (λ row. meets_new request row (slice_get ran.journals w)) request 1 xs)
@@ -108,7 +102,7 @@ pub worker-changed : (ran : Ran) (request w : ℕ) (workers : List Worker) (who 
 worker-changed ran request w workers who xs there number changed =
     numbered-split (λ row. meets_new request row (slice_get ran.journals w)) (λ row. list_any (is_new_at ran request row) (drop (w + 1) workers))
     (λ row. list_any (is_new_at ran request row) (drop w workers)) request 1 xs
-    (λ row. ap (list_any (is_new_at ran request row)) (drop_get workers w who there)
+    (λ row. ap (list_any (is_new_at ran request row)) (drop-at workers w who there)
     ∙ (ap (λ b. (b && meets_new request row (slice_get ran.journals who.number)) || list_any (is_new_at ran request row) (drop (w + 1) workers)) changed
     ∙ ap (λ n. meets_new request row (slice_get ran.journals n) || list_any (is_new_at ran request row) (drop (w + 1) workers)) number))
 
@@ -117,7 +111,7 @@ pub worker-unchanged : (ran : Ran) (request w : ℕ) (workers : List Worker) (wh
     → rows_numbered (λ row. list_any (is_new_at ran request row) (drop (w + 1) workers)) request 1 xs ≡ rows_numbered (λ row. list_any (is_new_at ran request row) (drop w workers)) request 1 xs
 worker-unchanged ran request w workers who xs there unchanged =
     numbered-same (λ row. list_any (is_new_at ran request row) (drop (w + 1) workers)) (λ row. list_any (is_new_at ran request row) (drop w workers)) request 1 xs
-    (λ row. sym (ap (list_any (is_new_at ran request row)) (drop_get workers w who there)
+    (λ row. sym (ap (list_any (is_new_at ran request row)) (drop-at workers w who there)
     ∙ ap (λ b. (b && meets_new request row (slice_get ran.journals who.number)) || list_any (is_new_at ran request row) (drop (w + 1) workers)) unchanged))
 
 pub new_anywhere : (ran : Ran) (request row : ℕ) (workers : List Worker) → list_any (is_new_at ran request row) workers

@@ -1,10 +1,6 @@
 -- The two parts of the worked run, worker by worker and lane by lane.
-use Rattle.std.proofs.Common.{◌≡◌, ◌∙◌, ◌≤◌, All, ℕ, zero, suc, [], ◌∷◌, min, Some, None, refl, ap, sym, subst, lit≤, arith, slice_get}
-use Rattle.std.specs.Prelude.{codes, option_map, pos, ℤ}
-use Rattle.std.specs.Cmp.Lexicographic.{slice_cmp}
-use Rattle.std.specs.FinMap.{empty, get, get-empty, get-insert}
-use Rattle.std.specs.Ordering.{nat_cmp}
-use Rattle.std.proofs.lemmas.Cmp.{nat_list_cmp_total}
+use Rattle.std.proofs.Common.{◌≡◌, ◌∙◌, ◌≤◌, All, ℕ, zero, suc, [], ◌∷◌, min, refl, ap, sym, subst, lit≤, arith, slice_get}
+use Rattle.std.specs.Prelude.{option_map}
 use Rattle.std.proofs.lemmas.List.Elements.{All-from_recursion, recursion_from_All}
 use Rattle.tuple_trace.specs.Rows.{AreRows, IsRow}
 use Rattle.flow_model.specs.Begin.{Begin, at_first}
@@ -20,15 +16,10 @@ use Rattle.flow_model.specs.declared.setup.Setup.{Setup}
 use Rattle.flow_model.proofs.EachLemmas.{OfEach, OfEachLane, Worked, of_each-gets, of_each_lane-gets, run-by_parts}
 use Rattle.flow_model.proofs.LawChecks.{finished-by_check}
 use Rattle.savepoint.specs.Parts.{first_of, joined, start_of}
-use Rattle.savepoint.specs.TwoHalves.{counted_row, has_count, tallied, tally_setup, two_named_rows, whole}
+use Rattle.savepoint.specs.TwoHalves.{counted_row, tallied, tally_setup, two_named_rows, whole}
 use Rattle.stream_law.specs.LateRequest.{early_half, early_so_far, late_half, late_part, unlifted}
 use Rattle.stream_law.specs.Stream.{IsNextPart, IsRunSoFar}
-
-none_yet : get {R = slice_cmp nat_cmp} (empty {X = ℤ}) (codes "ann") ≡ None
-none_yet = get-empty (slice_cmp nat_cmp) (codes "ann")
-
-one_yet : get (has_count (pos 1)) (codes "ann") ≡ Some (pos 1)
-one_yet = get-insert nat_list_cmp_total empty (codes "ann") (pos 1) (codes "ann")
+use Rattle.savepoint.proofs.ExampleLemmas.{none_yet, one_yet}
 
 early_worked : OfEach (Worked (first_of tally_setup 0)) (workers_in tallied) (at_first tally_setup).states early_half.journals early_half.states
 early_worked = (

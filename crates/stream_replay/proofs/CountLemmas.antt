@@ -5,7 +5,6 @@ use Rattle.std.proofs.Common.{List, [], ◌∷◌, ap, arith, cond, drop, length
 use Rattle.std.proofs.Common.{length-drop, take}
 use Rattle.std.specs.FinMap.{entries}
 use Rattle.std.specs.List.{count_by}
-use Rattle.std.proofs.lemmas.Bool.{le-leb}
 use Rattle.std.proofs.lemmas.List.{map-append}
 use Rattle.std.proofs.lemmas.List.Sums.{sum_by-append, sum_by-cons}
 use Rattle.jobs.specs.JobView.{JobView}
@@ -23,6 +22,7 @@ use Rattle.flow_model.specs.Feeding.{feed_after, feed_from, issued_after, issued
 use Rattle.flow_model.specs.Feeding.{issued_where}
 use Rattle.flow_model.proofs.FreshLemmas.{count_next, count_to}
 use Rattle.audit_parts.specs.Cut.{is_fed_record, is_issued_record, is_refused_record}
+use Rattle.savepoint.proofs.FeedLemmas.{count_all}
 
 abbrev Fields : Type 0
 Fields = List (List ℕ)
@@ -293,10 +293,6 @@ issued_later waits r row rows (suc left) =
       issued_later waits r (row + 1) rows left,
       ap (λ k. count_to k rows waits) e,
     )
-
-count_all : (rows : ℕ) (waits : List ℕ) → count_to rows rows waits ≡ length waits
-count_all rows [] = refl
-count_all rows (x ∷ waits) = rw (le-leb (min x rows) rows (omega arith)) (ap suc (count_all rows waits))
 
 pub issued_from : (row issued : ℕ) (waits : List ℕ) (rows : ℕ) → row ≤ rows
     → count_by is_issued_record (map feed_fields (feed_from row issued waits rows))

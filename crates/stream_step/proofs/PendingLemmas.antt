@@ -23,6 +23,8 @@ use Rattle.stream_step.specs.Parts.{IsBetweenRows, due_in}
 use Rattle.stream_step.specs.Pending.{AreAsked, SplitWithin, due_by, is_due_by, is_held, issued_by}
 use Rattle.stream_step.specs.Pending.{kept_by, left_by, lifted}
 use Rattle.stream_step.specs.declared.stream.Stream.{Stream}
+use Rattle.savepoint.proofs.OrderLemmas.{le_of, lt_of}
+use Rattle.savepoint.proofs.CutLemmas.{or_weaker}
 
 -- what the laws of judging say
 abbrev pub KeepOrder : Type 0
@@ -91,14 +93,8 @@ and_of : (a b : Bool) → a ≡ true → b ≡ true → (a && b) ≡ true
 and_of true b e f = f
 and_of false b e f = absurd (cc)
 
-le_of : (a b : ℕ) → nat_le a b ≡ true → a ≤ b
-le_of a b e = grind (arith, nat_tests)
-
 of_le : (a b : ℕ) → a ≤ b → nat_le a b ≡ true
 of_le a b e = grind (arith, nat_tests)
-
-gt_of : (a b : ℕ) → nat_le a b ≡ false → b < a
-gt_of a b e = grind (arith, nat_tests)
 
 pub fed_due : (fed : ℕ) (xs : List Request) → are_fed fed xs ≡ true
     → All (λ after. after ≤ fed) (afters xs)
@@ -200,7 +196,7 @@ due_then_left fed last low (x ∷ xs) le o =
         ++ (if not b then x ∷ left_by last xs else left_by last xs) ≡ x ∷ xs
     go true e f = ap (λ (l : List Request). x ∷ l) f
     go false e f =
-        let k : last < x.after = gt_of x.after last e in
+        let k : last < x.after = lt_of x.after last e in
         let none =
         none_due fed last (max x.after fed) xs
         (omega (arith, le-max_left x.after fed)) le o.1 in
@@ -218,7 +214,7 @@ left_lifted fed last (x ∷ xs) le = go (is_due_by last x) refl (left_lifted fed
         ≡ map (lifted fed) (if not b then x ∷ left_by last xs else left_by last xs)
     go true e f = f
     go false e f =
-        let k : last < x.after = gt_of x.after last e in
+        let k : last < x.after = lt_of x.after last e in
         let a : last ≤ x.after = omega arith in
         let b : fed ≤ x.after = omega arith in
         let same : max x.after last ≡ max x.after fed = max-eq_left a ∙ sym (max-eq_left b) in
@@ -322,10 +318,6 @@ pub or_right : (a b : Bool) → b ≡ true → (a || b) ≡ true
 or_right true b e = refl
 or_right false b e = e
 
-or_later : (a b c : Bool) → (b ≡ true → c ≡ true) → (a || b) ≡ true → (a || c) ≡ true
-or_later true b c f e = refl
-or_later false b c f e = f e
-
 made_some : (p : Request → Bool) (xs : List Request) (node : ℕ) → is_made_split (filter p xs) node
     ≡ true → is_made_split xs node ≡ true
 made_some p [] node e = e
@@ -335,7 +327,7 @@ made_some p (x ∷ xs) node e = go (p x) e (made_some p xs node)
         → (is_made_split (filter p xs) node ≡ true → is_made_split xs node ≡ true)
         → (list_any (makes_split node) x.changes || is_made_split xs node) ≡ true
     go true e f =
-        or_later (list_any (makes_split node) x.changes) (is_made_split (filter p xs) node)
+        or_weaker (list_any (makes_split node) x.changes) (is_made_split (filter p xs) node)
         (is_made_split xs node) f e
     go false e f = or_right (list_any (makes_split node) x.changes) (is_made_split xs node) (f e)
 

@@ -1,7 +1,6 @@
 -- A tuple that was nowhere may be put on each lane from a source.
-use Rattle.std.proofs.Common.{◌≡◌, ◌∙◌, ℕ, List, [], ◌∷◌, ◌++◌, true, false, refl, sym, ap, subst, length, map, Option, Some, None, slice_get}
-use Rattle.std.proofs.lemmas.Option.{same_Some, slice_get-get_or}
-use Rattle.flow_dag.specs.Edges.{HasEdge}
+use Rattle.std.proofs.Common.{◌≡◌, ◌∙◌, ℕ, List, [], ◌∷◌, ◌++◌, true, refl, sym, ap, subst, length, map, Option, Some, None, slice_get}
+use Rattle.std.proofs.lemmas.Option.{same_Some}
 use Rattle.flow_dag.specs.declared.edge.Edge.{Edge}
 use Rattle.flow_dag.specs.declared.graph.Graph.{Graph}
 use Rattle.jobs.specs.Law.{IsLawful}
@@ -14,10 +13,9 @@ use Rattle.tuple_trace.specs.declared.tuple.Item.TheVariants.{Carry, Last, Mark}
 use Rattle.tuple_trace.specs.declared.tuple.Tuple.{Tuple}
 use Rattle.tuple_trace.specs.declared.tuple.Visit.{Visit}
 use Rattle.flow_model.specs.Agreement.{IsGraphOf}
-use Rattle.flow_model.specs.Lanes.{is_same_sender, lanes_that, senders}
+use Rattle.flow_model.specs.Lanes.{lanes_that, senders}
 use Rattle.flow_model.specs.declared.topology.Lane.{Lane}
 use Rattle.flow_model.proofs.ElementLemmas.{IsIn, all_of_at, in_of_place}
-use Rattle.flow_model.proofs.JobLemmas.{unentered}
 use Rattle.flow_model.proofs.LaneLemmas.{in_lanes_that, lane_is, sender_source}
 use Rattle.flow_worker.proofs.Pairs.{get_mapped}
 use Rattle.coordinator.specs.Starts.{AreNewOuts}
@@ -25,16 +23,7 @@ use Rattle.flow_model.specs.NewEndpoint.{IsNewEndpoint}
 use Rattle.lane_core.specs.Lane.{EndpointIs}
 use Rattle.flow_crew.specs.Sides.{feeder_sends}
 use Rattle.test_actors.specs.Fed.{IsUnled}
-
-no_sender : (sender : Option ℕ) → is_same_sender None sender ≡ true → sender ≡ None
-no_sender None e = refl
-no_sender (Some s) e = absurd (cc)
-
-unled : (job : JobView) (node : ℕ) → IsLawful job → is_source_node (slice_get job.nodes node) ≡ true → (a : ℕ) → ¬ HasEdge job.edges a node
-unled job node law source a (i, edge, lt, at, (from, to)) =
-    let g : slice_get job.edges i ≡ Some edge = slice_get-get_or job.edges i edge lt ∙ ap Some at in
-    let k : is_source_node (slice_get job.nodes node) ≡ false = subst (λ v. is_source_node (slice_get job.nodes v) ≡ false) to (unentered job law i edge g) in
-    cc
+use Rattle.coordinator.proofs.Laying.{agrees_new, no_sender, unled}
 
 -- the endpoint of a lane from a source begins where no edge leads
 fed_end : (job : JobView) (graph : Graph) (out : EndpointIs) → IsLawful job → IsGraphOf job graph → IsNewEndpoint job graph out → IsIn out.number (lanes_that feeder_sends job) → IsUnled out.origin
@@ -60,11 +49,6 @@ last_place {A = A} f xs ys x e = ap (λ l. slice_get (map f l) (length xs)) e �
     at [] = refl
     at (z ∷ zs) = at zs
 
-agrees_new : (t : Tuple) (x : Item) → t.trace ≡ [] → Agrees x (Carry t)
-agrees_new t (Carry u) e = tt
-agrees_new t (Mark r c) e = rw e (all_of_at _ [] (λ x i. absurd i))
-agrees_new t Last e = tt
-
 agrees_last : (x : Item) → Agrees x Last
 agrees_last (Carry u) = tt
 agrees_last (Mark r c) = tt
@@ -78,6 +62,3 @@ may_feed origin sent t none e = (way, all_of_at (λ x. Agrees x (Carry t)) sent 
 
     way : HasComeTo origin (Carry t)
     way = along (map (λ (v : Visit). v.node) t.trace) (ap (map (λ (v : Visit). v.node)) e)
-
-pub may_end : (origin : Origin) (sent : List Item) → MayFollow origin sent Last
-may_end origin sent = (tt, all_of_at (λ x. Agrees x Last) sent (λ x i. agrees_last x))

@@ -10,7 +10,8 @@ use Rattle.flow_worker.specs.Endpoints.{LaneInIs, LaneOutIs, SameIn, SameOut}
 use Rattle.flow_worker.specs.Pairs.{EachOne}
 use Rattle.flow_worker.specs.Turning.{IsDone, SameEndpoints}
 use Rattle.flow_worker.specs.Worker.{IsWorker, WorkerIs}
-use Rattle.flow_worker.proofs.Pairs.{get_map, get_mapped, length_mapped, pairs_keep}
+use Rattle.flow_model.proofs.PlaceLemmas.{map_place}
+use Rattle.flow_worker.proofs.Pairs.{get_mapped, length_mapped, pairs_keep}
 use Rattle.coordinator.specs.Feeding.{IsFeeder}
 use Rattle.coordinator.specs.Views.{FeederIs}
 use Rattle.lane_core.specs.Lane.{EndpointIs, end_of}
@@ -38,7 +39,7 @@ still_crew setup begin workers later crew law same = record {
       ∙ (ap (λ (l : List ℕ). length l) same ∙ (length_mapped (λ (w : WorkerIs). w.number) workers ∙ crew.many));
   number = λ k w g.
       let there = ap (λ (l : List ℕ). slice_get l k) (sym same) ∙ get_mapped (λ (w : WorkerIs). w.number) later k w g in
-      let (u, at, e) = get_map (λ (w : WorkerIs). w.number) workers k w.number there in
+      let (u, at, e) = map_place (λ (w : WorkerIs). w.number) workers k w.number there in
       e ∙ crew.number k u at;
   law = λ k w g. each_got (IsWorker setup begin) later k w law g;
 }

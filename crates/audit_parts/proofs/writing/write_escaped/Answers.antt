@@ -1,5 +1,5 @@
 use Rattle.std.proofs.lemmas.Bool.{eq-eqb, ne_eqb}
-use Rattle.audit_parts.proofs.FieldLemmas.{escaped-other, escaped-same}
+use Rattle.sink_journal.proofs.FieldLemmas.{escaped-other, escaped-same}
 use Rattle.audit_parts.proofs.writing.write_escaped.Goals as goal
 
 pub returns-then-byte-eq34 : goal.returns-then-byte-eq34

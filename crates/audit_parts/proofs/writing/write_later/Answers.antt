@@ -2,7 +2,8 @@ use Rattle.std.proofs.Common.{◌++◌, ◌∙◌, [], ap, sym, List, ℕ, arith
 use Rattle.std.proofs.lemmas.List.{drop_all, drop_more}
 use Rattle.csv.specs.Records.{fields_of}
 use Rattle.csv.specs.Writing.{default_writer, field_text, fields_text}
-use Rattle.audit_parts.proofs.FieldLemmas.{no-field, one-field}
+use Rattle.sink_journal.proofs.FieldLemmas.{fields-none}
+use Rattle.audit_parts.proofs.FieldLemmas.{one-field}
 use Rattle.audit_parts.proofs.writing.write_later.Goals as goal
 
 pub loop-place-preserved : goal.loop-place-preserved
@@ -20,5 +21,5 @@ returns c =
     let fields = fields_of c.args.cells.now in
     let past : length fields ≤ c.loop-place.place = omega (arith, c.len-place-end.ensures, c.loop-place-test.false) in
     let end = c.args.text.now ++ fields_text default_writer (drop 1 fields) in
-    no-field c.loop-place.text end
+    fields-none c.loop-place.text end
     (ap (λ (l : List (List ℕ)). c.loop-place.text ++ fields_text default_writer l) (sym (drop_all c.loop-place.place fields past)) ∙ c.loop-place.invariant)

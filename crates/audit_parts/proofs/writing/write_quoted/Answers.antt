@@ -1,7 +1,7 @@
 use Rattle.std.proofs.Common.{◌∷◌, ◌++◌, ◌∙◌, [], ap, sym, List, ℕ, drop, append_assoc, slice_index_or, ◌+◌}
 use Rattle.std.proofs.lemmas.List.{drop_more}
 use Rattle.csv.specs.Writing.{default_writer, escaped}
-use Rattle.audit_parts.proofs.FieldLemmas.{escaped-cons, escaped-done, on-ok}
+use Rattle.sink_journal.proofs.FieldLemmas.{escaped-cons, escaped-done, on-ok}
 use Rattle.audit_parts.proofs.writing.write_quoted.Goals as goal
 
 pub loop-byte-preserved : goal.loop-byte-preserved

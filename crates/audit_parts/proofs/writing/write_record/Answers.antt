@@ -1,7 +1,8 @@
 use Rattle.std.proofs.Common.{◌++◌, ◌∙◌, ap, sym, List, ℕ}
 use Rattle.csv.specs.Records.{fields_of}
 use Rattle.csv.specs.Writing.{default_writer, field_text}
-use Rattle.audit_parts.proofs.FieldLemmas.{blank-record, on-ok, shown-record}
+use Rattle.sink_journal.proofs.FieldLemmas.{on-ok}
+use Rattle.audit_parts.proofs.FieldLemmas.{blank-record, shown-record}
 use Rattle.audit_parts.proofs.writing.write_record.Goals as goal
 
 pub returns-then-is_blank : goal.returns-then-is_blank

@@ -4,14 +4,14 @@ use Rattle.jobs.specs.Job.{job_view}
 use Rattle.jobs.specs.Nodes.{AreFromSources, IsSourceOf}
 use Rattle.tuple_trace.specs.Rows.{IsRow}
 use Rattle.tuple_trace.specs.declared.row.Row.{Row}
-use Rattle.flow_exact.proofs.ExactLemmas.{rows_take}
+use Rattle.savepoint.proofs.PartsLemmas.{AreRows-take}
 use Rattle.flow_exact.proofs.parts.run_part.Goals as goal
 
 pub behind-front-requires-clause-numbered : goal.behind-front-requires-clause-numbered
 behind-front-requires-clause-numbered g c i row is =
     let same : i + 1 ≡ 0 + i + 1 = omega arith in
     subst (λ k. IsRow k row) same
-    (rows_take c.args.row c.as_slice.result.now c.as_slice.ensures.rows i row is)
+    (AreRows-take c.args.row c.as_slice.result.now c.as_slice.ensures.rows i row is)
 
 pub run_from-requires-clause-rows : goal.run_from-requires-clause-rows
 run_from-requires-clause-rows g c κs within =
