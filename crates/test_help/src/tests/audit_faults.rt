@@ -82,7 +82,10 @@ fn is_case(alloc: Global, fault: AuditFault, told: &str) -> Result<bool, NoMemor
 #[test]
 fn workers_and_lanes_are_told_by_their_nodes(rt: HostRuntime) {
     for (fault, told) in CASES {
-        assert!(rt; matches!(is_case(rt.alloc(), *fault, told), Ok(true)));
+        assert!(rt;
+            matches!(is_case(rt.alloc(), *fault, told), Ok(true)),
+            "{told}"
+        );
     }
 }
 

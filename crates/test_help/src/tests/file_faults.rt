@@ -169,6 +169,9 @@ ALERTS, AUDIT are missing. Type `fries run --help`.
 #[test]
 fn faults_without_a_place_are_told(rt: HostRuntime) {
     for (words, fault, told) in CASES {
-        assert!(rt; matches!(is_told(rt.alloc(), &[], words, *fault, &[], told), Ok(true)));
+        assert!(rt;
+            matches!(is_told(rt.alloc(), &[], words, *fault, &[], told), Ok(true)),
+            "{told}"
+        );
     }
 }

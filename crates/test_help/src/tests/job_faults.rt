@@ -297,6 +297,10 @@ fn is_case(alloc: Global, case: Case) -> Result<bool, NoMemory> {
 #[test]
 fn each_fault_of_a_job_is_told(rt: HostRuntime) {
     for case in CASES {
-        assert!(rt; matches!(is_case(rt.alloc(), *case), Ok(true)));
+        assert!(rt;
+            matches!(is_case(rt.alloc(), *case), Ok(true)),
+            "{}",
+            case.told
+        );
     }
 }

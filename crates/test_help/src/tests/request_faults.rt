@@ -329,20 +329,32 @@ fn is_told_of<'a>(
 #[test]
 fn each_fault_of_a_request_file_is_told(rt: HostRuntime) {
     for case in FAULTS {
-        assert!(rt; matches!(is_fault(rt.alloc(), *case), Ok(true)));
+        assert!(rt;
+            matches!(is_fault(rt.alloc(), *case), Ok(true)),
+            "{}",
+            case.told
+        );
     }
 }
 
 #[test]
 fn each_refused_request_is_told(rt: HostRuntime) {
     for case in REFUSALS {
-        assert!(rt; matches!(is_refusal(rt.alloc(), *case), Ok(true)));
+        assert!(rt;
+            matches!(is_refusal(rt.alloc(), *case), Ok(true)),
+            "{}",
+            case.told
+        );
     }
 }
 
 #[test]
 fn values_that_do_not_fit_a_column_are_told(rt: HostRuntime) {
     for case in REFUSALS_WITH_TABLE {
-        assert!(rt; matches!(is_refusal_with_table(rt.alloc(), *case), Ok(true)));
+        assert!(rt;
+            matches!(is_refusal_with_table(rt.alloc(), *case), Ok(true)),
+            "{}",
+            case.told
+        );
     }
 }

@@ -96,7 +96,11 @@ fn is_told_of(alloc: Global, text: &str, fault: PFault, told: &str) -> Result<bo
 #[test]
 fn each_fault_of_a_payments_file_is_told(rt: HostRuntime) {
     for case in CASES {
-        assert!(rt; matches!(is_case(rt.alloc(), *case), Ok(true)));
+        assert!(rt;
+            matches!(is_case(rt.alloc(), *case), Ok(true)),
+            "{}",
+            case.told
+        );
     }
 }
 
@@ -151,7 +155,10 @@ fn is_case_of_first(alloc: Global, fault: PFault, told: &str) -> Result<bool, No
 #[test]
 fn faults_of_the_payments_of_first_are_told(rt: HostRuntime) {
     for (fault, told) in CASES_OF_FIRST {
-        assert!(rt; matches!(is_case_of_first(rt.alloc(), *fault, told), Ok(true)));
+        assert!(rt;
+            matches!(is_case_of_first(rt.alloc(), *fault, told), Ok(true)),
+            "{told}"
+        );
     }
 }
 

@@ -73,7 +73,10 @@ fn is_case(alloc: Global, fault: Fault, told: &str) -> Result<bool, NoMemory> {
 #[test]
 fn each_fault_of_a_savepoint_is_told(rt: HostRuntime) {
     for (fault, told) in CASES {
-        assert!(rt; matches!(is_case(rt.alloc(), *fault, told), Ok(true)));
+        assert!(rt;
+            matches!(is_case(rt.alloc(), *fault, told), Ok(true)),
+            "{told}"
+        );
     }
 }
 
@@ -98,6 +101,9 @@ fn the_skipped_rows_of_resume_are_told(rt: HostRuntime) {
         ),
     ];
     for (row, told) in &cases {
-        assert!(rt; matches!(is_told_of_rows(rt.alloc(), *row, told), Ok(true)));
+        assert!(rt;
+            matches!(is_told_of_rows(rt.alloc(), *row, told), Ok(true)),
+            "{told}"
+        );
     }
 }

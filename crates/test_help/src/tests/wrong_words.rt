@@ -145,7 +145,10 @@ fn is_case(alloc: Global, words: &[&str], told: &str) -> Result<bool, NoMemory> 
 #[test]
 fn the_first_wrong_word_is_told(rt: HostRuntime) {
     for (words, told) in CASES {
-        assert!(rt; matches!(is_case(rt.alloc(), words, told), Ok(true)));
+        assert!(rt;
+            matches!(is_case(rt.alloc(), words, told), Ok(true)),
+            "{told}"
+        );
     }
 }
 
