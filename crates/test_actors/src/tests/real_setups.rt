@@ -10,95 +10,8 @@ use flow_worker::{Turn, Worker};
 use lane_core::{Lanes, QueueLanes};
 use std::alloc::Global;
 use test_runs::job_of;
+use test_texts::{PAYMENTS_JOB, PAYMENTS_REQUESTS};
 use tuple_trace::{NoMemory, OpenGate};
-
-/// Two sources, a table, a count with two workers and two sinks.
-const PAYMENTS: &str = r#"
-columns = ["account:text", "merchant:text", "amount:cents", "risk:number:own", "seen:number:own"]
-[tables.risks]
-casino = 3
-fuel = 2
-[[node]]
-name = "card"
-kind = "source"
-[[node]]
-name = "wire"
-kind = "source"
-[[node]]
-name = "rate"
-kind = "enrich"
-key = "merchant"
-into = "risk"
-table = "risks"
-other = 1
-[[node]]
-name = "big"
-kind = "filter"
-when = [["amount", ">=", 10000]]
-[[node]]
-name = "hot"
-kind = "filter"
-when = [["risk", ">=", 2]]
-[[node]]
-name = "tally"
-kind = "count"
-workers = 2
-key = "account"
-add = 1
-into = "seen"
-[[node]]
-name = "review"
-kind = "sink"
-columns = ["account", "merchant", "amount", "risk"]
-[[node]]
-name = "often"
-kind = "filter"
-when = [["seen", ">=", 3]]
-[[node]]
-name = "watch"
-kind = "sink"
-columns = ["account", "merchant", "seen"]
-[[edge]]
-from = "card"
-to = "rate"
-[[edge]]
-from = "wire"
-to = "rate"
-[[edge]]
-from = "rate"
-to = "big"
-[[edge]]
-from = "big"
-to = "hot"
-[[edge]]
-from = "big"
-to = "tally"
-port = 1
-[[edge]]
-from = "hot"
-to = "review"
-[[edge]]
-from = "tally"
-to = "often"
-[[edge]]
-from = "often"
-to = "watch"
-"#;
-
-const PAYMENTS_REQUESTS: &str = r#"
-[[request]]
-after = 4
-[[request.change]]
-node = "big"
-from = 0
-kind = "filter"
-when = [["amount", ">=", 5000]]
-[[request.change]]
-node = "hot"
-from = 0
-kind = "filter"
-when = [["risk", ">=", 3]]
-"#;
 
 /// A split with three workers above a replicate with two, both above two maps.
 const SPLIT: &str = r#"
@@ -209,7 +122,7 @@ fn workers_in<L: Lanes>(alloc: Global, form: &L, setup: &Setup) -> Option<usize>
 
 /// A job, its requests, and the number of its workers.
 const SETUPS: [(&str, &str, usize); 2] = [
-    (PAYMENTS, PAYMENTS_REQUESTS, 8),
+    (PAYMENTS_JOB, PAYMENTS_REQUESTS, 8),
     (SPLIT, SPLIT_REQUESTS, 8),
 ];
 
