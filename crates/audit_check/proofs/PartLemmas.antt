@@ -10,6 +10,7 @@ use Rattle.audit_laws.specs.Names.{named_workers}
 use Rattle.audit_laws.specs.Verdict.{DifferFirst, fields_of}
 use Rattle.audit_laws.proofs.LineLemmas.{AreTold, same_line}
 use Rattle.flow_model.proofs.TopologyLemmas.{take-next}
+use Rattle.flow_model.proofs.DueLemmas.{take_end}
 
 -- Some lines were read, and these records are left. Of the group, the lines that were read tell the
 -- first of what is wanted.
@@ -23,12 +24,6 @@ pub record IsAt (job : JobView) {A : Type 0} (pick : Line → Option A) (g : ℕ
   pub reached : (l : Line) → IsIn l rest → g ≤ group_of l
 
 -- ---- lists
-
-past_end : {A : Type 0} (xs : List A) (k : ℕ) → slice_get (take k xs) k ≡ None
-past_end [] zero = refl
-past_end [] (suc k) = refl
-past_end (x ∷ xs) zero = refl
-past_end (x ∷ xs) (suc k) = past_end xs k
 
 pub get_after : {A : Type 0} (xs : List A) (x : A) (ys : List A) (k : ℕ) → length xs ≡ k → slice_get (xs ++ x ∷ ys) k ≡ Some x
 get_after [] x ys zero e = refl
@@ -55,7 +50,7 @@ take_twice {A} (x ∷ xs) (suc k) = ap (λ (l : List A). x ∷ l) (take_twice xs
 pub fewer : {A : Type 0} (xs wanted : List A) (k : ℕ) (w : A) → xs ≡ take k wanted → slice_get wanted k ≡ Some w → DifferFirst xs wanted k
 fewer {A} xs wanted k w e g = (
   ap (take k) e ∙ take_twice wanted k,
-  λ h. let none = sym (ap (λ (l : List A). slice_get l k) e ∙ past_end wanted k) ∙ (h ∙ g) in absurd (cc),
+  λ h. let none = sym (ap (λ (l : List A). slice_get l k) e ∙ take_end wanted k) ∙ (h ∙ g) in absurd (cc),
 )
 
 none_past : {A : Type 0} (xs : List A) → slice_get xs (length xs) ≡ None

@@ -15,15 +15,14 @@ use Rattle.flow_model.specs.SetupView.{SetupView, Worker}
 use Rattle.flow_model.specs.Duties.{dues_after, numbers_from, duties}
 use Rattle.flow_model.proofs.ElementLemmas.{IsIn, in_filter, in_of_contains}
 use Rattle.flow_model.proofs.LaneLemmas.{in_lanes_that}
-use Rattle.flow_model.proofs.MarkerLemmas.{due_in}
+use Rattle.flow_model.proofs.MarkerLemmas.{due_in, later_in}
 use Rattle.flow_model.proofs.SizeLemmas.{lanes-few}
 use Rattle.audit_laws.specs.Lines.{LeadsTo}
-use Rattle.audit_laws.proofs.SeenLemmas.{later_due}
 
 fewer_dues : (progress : Progress) (x : Entry) (r : ℕ) → IsIn r (after_entry progress x).dues → IsIn r progress.dues
 fewer_dues progress (entry.Met l t) r i = i
 fewer_dues progress (entry.Marked l q) r i = i
-fewer_dues progress (entry.Turned q) r i = later_due r progress.dues i
+fewer_dues progress (entry.Turned q) r i = later_in r progress.dues i
 fewer_dues progress (entry.Ended l) r i = i
 
 -- each entry was enabled, when what was due then was due at first

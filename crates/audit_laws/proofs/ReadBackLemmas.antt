@@ -48,7 +48,7 @@ as_long (fields ∷ more) = omega (arith, one_byte fields, as_long more, length-
 
 -- ---- the records of an audit
 
-pub both_have : (a b : List (List (List ℕ))) → HaveFields a → HaveFields b → HaveFields (a ++ b)
+both_have : (a b : List (List (List ℕ))) → HaveFields a → HaveFields b → HaveFields (a ++ b)
 both_have [] b h k = k
 both_have ([] ∷ a) b h k = absurd h
 both_have ((x ∷ xs) ∷ a) b h k = both_have a b h k

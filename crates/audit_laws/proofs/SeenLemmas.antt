@@ -7,11 +7,12 @@ use Rattle.sink_journal.specs.declared.journal.Entry.{Entry}
 use Rattle.sink_journal.specs.declared.journal.Entry.TheVariants as entry
 use Rattle.tuple_trace.specs.declared.tuple.Item.TheVariants as item
 use Rattle.flow_model.specs.Covers.{plan_of}
-use Rattle.flow_model.specs.Law.{IsExecution, Progress, Duties, after_entry, later_dues, next_due}
+use Rattle.flow_model.specs.Law.{IsExecution, Progress, Duties, after_entry, next_due}
 use Rattle.flow_model.specs.SetupView.{SetupView}
 use Rattle.flow_model.specs.Replay.{came_in, marker, marker_by, shown}
 use Rattle.flow_model.proofs.ElementLemmas.{IsIn}
 use Rattle.flow_model.proofs.JournalLemmas.{due_first}
+use Rattle.flow_model.proofs.MarkerLemmas.{later_in}
 use Rattle.audit_laws.specs.declared.audit.AuditEntry.{AuditEntry}
 use Rattle.audit_laws.specs.declared.audit.AuditEntry.TheVariants as kept
 use Rattle.audit_laws.specs.Faults.{comes_by, seen}
@@ -23,10 +24,6 @@ MarksPlans setup xs = (l r : ℕ) → IsIn (entry.Marked l r) xs → (plan : Pla
 
 -- ---- by the law a marker is of a due
 
-pub later_due : (r : ℕ) (dues : List ℕ) → IsIn r (later_dues dues) → IsIn r dues
-later_due r [] i = absurd i
-later_due r (due ∷ later) i = inr i
-
 pub marked_is_due : (duties : Duties) (progress : Progress) (xs : List Entry) (l r : ℕ) → IsExecution duties progress xs → IsIn (entry.Marked l r) xs → IsIn r progress.dues
 marked_is_due duties progress [] l r f i = absurd i
 marked_is_due duties progress (entry.Met k t ∷ xs) l r f (inl e) = absurd (cc)
@@ -37,7 +34,7 @@ marked_is_due duties progress (entry.Marked k q ∷ xs) l r f (inl e) =
     subst (λ (l : List ℕ). IsIn r l) (sym (due_first progress.dues q due)) (inl same)
 marked_is_due duties progress (entry.Marked k q ∷ xs) l r f (inr i) = marked_is_due duties (after_entry progress (entry.Marked k q)) xs l r f.1 i
 marked_is_due duties progress (entry.Turned q ∷ xs) l r f (inl e) = absurd (cc)
-marked_is_due duties progress (entry.Turned q ∷ xs) l r f (inr i) = later_due r progress.dues (marked_is_due duties (after_entry progress (entry.Turned q)) xs l r f.1 i)
+marked_is_due duties progress (entry.Turned q ∷ xs) l r f (inr i) = later_in r progress.dues (marked_is_due duties (after_entry progress (entry.Turned q)) xs l r f.1 i)
 marked_is_due duties progress (entry.Ended k ∷ xs) l r f (inl e) = absurd (cc)
 marked_is_due duties progress (entry.Ended k ∷ xs) l r f (inr i) = marked_is_due duties (after_entry progress (entry.Ended k)) xs l r f.1 i
 

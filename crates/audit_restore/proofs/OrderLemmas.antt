@@ -1,7 +1,7 @@
 -- The workers in the order of their nodes.
 use Rattle.std.proofs.Common.{◌≡◌, ◌≢◌, ◌∙◌, ◌<◌, ◌≤◌, ◌+◌, ◌==◌, ◌++◌, ℕ, zero, suc, List, [], ◌∷◌, inl, inr, refl, sym, ap, arith, true, false, Bool, cond, filter, get_or, length, take, append_assoc, Some, slice_get}
 use Rattle.std.specs.List.{flat_map}
-use Rattle.std.proofs.lemmas.Bool.{cases_lt, eq-eqb, eqb-true}
+use Rattle.std.proofs.lemmas.Bool.{eq-eqb, eqb-true}
 use Rattle.std.proofs.lemmas.List.{append-nil, take_more}
 use Rattle.std.proofs.lemmas.List.Elements.{filter-append}
 use Rattle.std.proofs.lemmas.Option.{same_Some, slice_get-get_or}
@@ -19,15 +19,9 @@ use Rattle.flow_dag.proofs.OrderLemmas.{Contains-from_any}
 use Rattle.flow_dag.proofs.PlaceLemmas.{get_or-place_of, place_of-below}
 use Rattle.flow_model.proofs.ElementLemmas.{AreDistinct, before_first, before_second, at_of_all, in_of_contains, pair_of_all, same_place}
 use Rattle.flow_model.proofs.WorkerPlaces.{node_below}
+use Rattle.flow_model.proofs.PlannedLemmas.{numbers_in}
 
 -- ---- numbers
-
-number_in : (first count n : ℕ) → first ≤ n → n < first + count → IsIn n (numbers_from first count)
-number_in first zero n le lt = absurd (omega (arith, le, lt))
-number_in first (suc count) n le lt = elim (cases_lt first n) [
-  | inl less ↦ inr (number_in (first + 1) count n (omega (arith, less)) (omega (arith, lt)))
-  | inr more ↦ inl (omega (arith, le, more))
-]
 
 in_number : (first count n : ℕ) → IsIn n (numbers_from first count) → (first ≤ n) × (n < first + count)
 in_number first zero n i = absurd i
@@ -108,7 +102,7 @@ module _ (job : JobView) (dag : DagView) (nodes : dag.nodes ≡ length job.nodes
           let here = in_of_contains node dag.order (Contains-from_any dag.order node (dag.lawful.ordered.each node (omega (arith, below, nodes)))) in
           place_of_in w (flat_map these dag.order)
           (flat_map_in these node w dag.order here
-          (filter_in (λ w. (nth_worker job w).node == node) w (numbers_from 0 (length (workers_in job))) (number_in 0 (length (workers_in job)) w (omega arith) (omega (arith, lt))) (eq-eqb node node refl)));
+          (filter_in (λ w. (nth_worker job w).node == node) w (numbers_from 0 (length (workers_in job))) (numbers_in 0 (length (workers_in job)) w (omega arith) (omega (arith, lt))) (eq-eqb node node refl)));
       sorted = λ i j v w g h lt.
           elim (flat_map_before these v w dag.order (before_of_places (flat_map these dag.order) i j v w g h lt)) [
             | inl one ↦ same_node one.0 v w one.2

@@ -3,20 +3,18 @@ use Rattle.std.proofs.Common.{◌≡◌, ◌≢◌, ◌⊎◌, ◌∙◌, ◌↔
 use Rattle.std.specs.Prelude.{option_map}
 use Rattle.std.proofs.lemmas.Bool.{cases_lt}
 use Rattle.std.proofs.lemmas.List.Quantifiers.{Any-push}
-use Rattle.std.proofs.lemmas.Option.{slice_get_within}
+use Rattle.std.proofs.lemmas.Option.{same_Some, slice_get_within}
 use Rattle.std.proofs.Math.Logic.{∥∥₁_elim}
 use Rattle.std.proofs.Math.Bool.{Bool-set}
 use Rattle.control_box.specs.Endpoints.{HasShownReady, PosterIs}
-use Rattle.cover_planner.specs.declared.cover.Plan.{Plan}
-use Rattle.flow_dag.proofs.MaskLemmas.{has-Has}
-use Rattle.flow_model.specs.Covers.{covers, heads, holds_node, is_head}
+use Rattle.flow_model.specs.Covers.{covers, is_head}
 use Rattle.flow_model.specs.SetupView.{SetupView, Worker}
 use Rattle.flow_model.specs.Planned.{IsPlanned}
 use Rattle.flow_model.specs.Workers.{workers_in}
-use Rattle.flow_model.proofs.WorkerLemmas.{item_at}
+use Rattle.flow_model.proofs.PlannedLemmas.{heads_covered}
 use Rattle.coordinator.specs.Boxes.{AreCountedWith, ArePosted, AreReady, IsUnready, LastAtLeast, MayPost, SameBoxes, SameLoads, SamePosts}
 use Rattle.coordinator.specs.Numbers.{covered_to, node_at, node_in, covering_count, posted_number}
-use Rattle.coordinator.proofs.ListLemmas.{Pairs, also_there, get_set_other, get_set_same, here_or_not, pairs_map, pairs_set, same_some}
+use Rattle.coordinator.proofs.ListLemmas.{Pairs, also_there, get_set_other, get_set_same, here_or_not, pairs_map, pairs_set}
 
 -- ---- numbers
 
@@ -25,14 +23,14 @@ covers_here setup w request b = go (slice_get (workers_in setup.job) w)
   where
     go : (o : Option Worker) → option_map (λ (post : Worker). covers setup request post.node) o ≡ Some b → covers setup request (node_in o) ≡ b
     go None e = absurd (cc)
-    go (Some post) e = same_some (covers setup request post.node) b e
+    go (Some post) e = same_Some (covers setup request post.node) b e
 
 pub heads_here : (setup : SetupView) (w request : ℕ) (b : Bool) → option_map (λ (post : Worker). is_head setup request post.node) (slice_get (workers_in setup.job) w) ≡ Some b → is_head setup request (node_at setup w) ≡ b
 heads_here setup w request b = go (slice_get (workers_in setup.job) w)
   where
     go : (o : Option Worker) → option_map (λ (post : Worker). is_head setup request post.node) o ≡ Some b → is_head setup request (node_in o) ≡ b
     go None e = absurd (cc)
-    go (Some post) e = same_some (is_head setup request post.node) b e
+    go (Some post) e = same_Some (is_head setup request post.node) b e
 
 pub covered_rises : (setup : SetupView) (node r : ℕ) → covered_to setup node r ≤ covered_to setup node (suc r)
 covered_rises setup node r = go (covers setup (suc r) node)
@@ -86,22 +84,8 @@ posted_within setup turned w (suc r) = go (is_head setup (suc r) (node_at setup 
 
 -- ---- heads
 
--- a head is covered
-head_planned : (setup : SetupView) → IsPlanned setup → (r node : ℕ) → is_head setup r node ≡ true → covers setup r node ≡ true
-head_planned setup is zero node h = absurd (cc)
-head_planned setup is (suc r) node h = go (slice_get setup.plans r) refl h
-  where
-    go : (o : Option Plan) → slice_get setup.plans r ≡ o → heads o node ≡ true → holds_node o node ≡ true
-    go None e h = absurd (cc)
-    go (Some plan) e h =
-        let within : r < length setup.requests = omega (arith, is.one_each, slice_get_within setup.plans r plan e) in
-        let q = item_at setup.requests r within in
-        let p = is.plans r q.0 plan q.1 e in
-        let inside = ((p.planned.cover.heads node).0 ((has-Has plan.heads node).0 h)).0 in
-        (has-Has plan.nodes node).1 ((p.planned.cover.nodes node).1 inside)
-
 pub head_covered : (setup : SetupView) → ∥ IsPlanned setup ∥₁ → (r node : ℕ) → is_head setup r node ≡ true → covers setup r node ≡ true
-head_covered setup planned r node h = ∥∥₁_elim planned (Bool-set _ _) (λ is. head_planned setup is r node h)
+head_covered setup planned r node h = ∥∥₁_elim planned (Bool-set _ _) (λ is. heads_covered setup is r node h)
 
 covered_within : (setup : SetupView) (node r : ℕ) → covered_to setup node r ≤ r
 covered_within setup node zero = omega arith
@@ -124,7 +108,7 @@ abbrev pub Asked : ℕ → List PosterIs → List PosterIs → Type 0
 Asked k old now = Pairs (AskedAt k) old now
 
 pub asked_none : (k : ℕ) (old : List PosterIs) → Asked k old old
-asked_none k old = (refl, λ i p q a b. let e : q ≡ p = same_some q p (sym b ∙ a) in (ap (λ z. z.within) e, ap (λ z. z.posted) e, (λ le. e)))
+asked_none k old = (refl, λ i p q a b. let e : q ≡ p = same_Some q p (sym b ∙ a) in (ap (λ z. z.within) e, ap (λ z. z.posted) e, (λ le. e)))
 
 pub ask_next : (k : ℕ) (old now : List PosterIs) (x y : PosterIs) → Asked k old now → slice_get now k ≡ Some x → y.within ≡ x.within → y.posted ≡ x.posted → Asked (k + 1) old (set now k y)
 ask_next k old now x y h g w e =
@@ -144,8 +128,8 @@ ready_next covered k n t now x y h g c l le = λ w m p lt d a. go w m p lt d a (
     go w m p lt d a (inl e) =
         let a' : slice_get (set now k y) k ≡ Some p = subst (λ j. slice_get (set now k y) j ≡ Some p) (sym e) a in
         let d' : slice_get covered k ≡ Some m = subst (λ j. slice_get covered j ≡ Some m) (sym e) d in
-        let same : y ≡ p = same_some y p (sym (get_set_same now k x y g) ∙ a') in
-        let number : n ≡ m = same_some n m (sym c ∙ d') in
+        let same : y ≡ p = same_Some y p (sym (get_set_same now k x y g) ∙ a') in
+        let number : n ≡ m = same_Some n m (sym c ∙ d') in
         subst (λ z. LastAtLeast m z.loads) same (x.loads, t, l, omega (arith, number, le))
     go w m p lt d a (inr ne) = h w m p (omega (arith, lt, ne)) d (sym (get_set_other now k w y ne) ∙ a)
 
@@ -187,7 +171,7 @@ abbrev pub Counted : SetupView → ℕ → ℕ → List ℕ → List ℕ → Typ
 Counted setup request k old now = Pairs (CountedAt setup request k) old now
 
 pub counted_none : (setup : SetupView) (request : ℕ) (old : List ℕ) → Counted setup request 0 old old
-counted_none setup request old = (refl, λ i m n a b. ((λ lt. absurd (omega (arith, lt))), (λ le. same_some n m (sym b ∙ a))))
+counted_none setup request old = (refl, λ i m n a b. ((λ lt. absurd (omega (arith, lt))), (λ le. same_Some n m (sym b ∙ a))))
 
 pub count_skips : (setup : SetupView) (request k : ℕ) (old now : List ℕ) → Counted setup request k old now → covers setup request (node_at setup k) ≡ false → Counted setup request (k + 1) old now
 count_skips setup request k old now h e =
@@ -226,7 +210,7 @@ abbrev pub Posted : SetupView → ℕ → List ℕ → ℕ → List PosterIs →
 Posted setup request covered k old now = Pairs (PostedAt setup request covered k) old now
 
 pub posted_none : (setup : SetupView) (request : ℕ) (covered : List ℕ) (old : List PosterIs) → Posted setup request covered 0 old old
-posted_none setup request covered old = (refl, λ i p q a b. let e : q ≡ p = same_some q p (sym b ∙ a) in (ap (λ z. z.within) e, ap (λ z. z.loads) e, (λ lt. absurd (omega (arith, lt))), (λ le. e)))
+posted_none setup request covered old = (refl, λ i p q a b. let e : q ≡ p = same_Some q p (sym b ∙ a) in (ap (λ z. z.within) e, ap (λ z. z.loads) e, (λ lt. absurd (omega (arith, lt))), (λ le. e)))
 
 -- a worker that isn't of a head
 pub post_skips : (setup : SetupView) (request : ℕ) (covered : List ℕ) (k : ℕ) (old now : List PosterIs) → Posted setup request covered k old now → is_head setup request (node_at setup k) ≡ false → Posted setup request covered (k + 1) old now
@@ -245,7 +229,7 @@ pub post_next : (setup : SetupView) (request : ℕ) (covered : List ℕ) (k m : 
 post_next setup request covered k m old now x y h g c e w l t =
     pairs_set (PostedAt setup request covered k) (PostedAt setup request covered (k + 1)) old now k x y h g
     (λ i p q ne r. (r.0, r.1, (λ lt n d. r.2 (omega (arith, lt, ne)) n d), (λ le. r.3 (omega (arith, le)))))
-    (λ p a r. (w ∙ r.0, l ∙ r.1, (λ lt n d. rw e (t ∙ same_some m n (sym c ∙ d))), (λ le. absurd (omega (arith, le)))))
+    (λ p a r. (w ∙ r.0, l ∙ r.1, (λ lt n d. rw e (t ∙ same_Some m n (sym c ∙ d))), (λ le. absurd (omega (arith, le)))))
 
 pub unposted : (setup : SetupView) (request : ℕ) (covered : List ℕ) (k : ℕ) (old now : List PosterIs) (x : PosterIs) → Posted setup request covered k old now → slice_get now k ≡ Some x → slice_get old k ≡ Some x
 unposted setup request covered k old now x h g =

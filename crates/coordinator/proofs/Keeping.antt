@@ -2,13 +2,14 @@
 use Rattle.std.proofs.Common.{◌≡◌, ◌≢◌, ◌⊎◌, ◌∙◌, ◌+◌, ◌<◌, ◌≤◌, ℕ, suc, List, [], ◌∷◌, ◌++◌, inl, inr, refl, sym, subst, ap, true, false, cond, nat_lt, arith, length, set, None, Some, slice_get, append-nil}
 use Rattle.std.proofs.lemmas.Bool.{cases_lt}
 use Rattle.std.proofs.lemmas.Bool.Decides.{nat_tests}
-use Rattle.std.proofs.lemmas.Option.{slice_get_within}
+use Rattle.std.proofs.lemmas.Option.{same_Some, slice_get_within}
 use Rattle.flow_dag.specs.declared.graph.Graph.{Graph}
 use Rattle.sink_journal.specs.declared.journal.Feed.{Feed}
 use Rattle.sink_journal.specs.declared.journal.Feed.TheVariants.{Fed, Issued, Stopped}
 use Rattle.tuple_trace.specs.declared.row.Row.{Row}
 use Rattle.tuple_trace.specs.declared.tuple.Tuple.{Tuple}
 use Rattle.tuple_trace.specs.declared.tuple.Item.TheVariants.{Last}
+use Rattle.versions.proofs.WaitingLemmas.{not_below}
 use Rattle.flow_model.specs.Begin.{Begin}
 use Rattle.flow_model.specs.Feeding.{fed, fed_tuple, feed_from}
 use Rattle.flow_model.specs.Lanes.{lane_of}
@@ -21,18 +22,15 @@ use Rattle.coordinator.specs.Feeding.{IsFeeding, IsOut, end_at, fed_lanes, issue
 use Rattle.coordinator.specs.Steps.{IsReached, IsAhead, Steps, fed_item}
 use Rattle.coordinator.specs.declared.feeding.FeedTurn.{FeedTurn}
 use Rattle.coordinator.specs.declared.feeding.FeedTurn.TheVariants.{Done, Idle, Moved, NoMemory}
-use Rattle.coordinator.proofs.ListLemmas.{get_set_other, get_set_same, here_or_not, length_set, one_more, same_some}
+use Rattle.coordinator.proofs.ListLemmas.{get_set_other, get_set_same, here_or_not, length_set, one_more}
 use Rattle.coordinator.proofs.Rests.{all_issued, later_behind, rest_feed, rest_issue, rest_stop}
 use Rattle.coordinator.proofs.Sents.{fed_more, fed_same, issued_append, one_place, row_else, row_here}
 
 lt_test : (a b : ℕ) → a < b → nat_lt a b ≡ true
 lt_test a b p = grind (arith, nat_tests)
 
-ge_test : (a b : ℕ) → b ≤ a → nat_lt a b ≡ false
-ge_test a b p = grind (arith, nat_tests)
-
 pub no_end : (k e : ℕ) → e ≤ k → end_at k e ≡ []
-no_end k e q = ap (λ t. cond t (Last ∷ []) []) (ge_test k e q)
+no_end k e q = ap (λ t. cond t (Last ∷ []) []) (not_below k e q)
 
 pub an_end : (k e : ℕ) → k < e → end_at k e ≡ Last ∷ []
 an_end k e q = ap (λ t. cond t (Last ∷ []) []) (lt_test k e q)
@@ -85,7 +83,7 @@ module _ (setup : SetupView) (begin : Begin) (xs : List ℕ) (rows : List Row) w
       go (inl e) =
           let a' : slice_get (fed_lanes setup.job) k ≡ Some lane = subst (λ i. slice_get (fed_lanes setup.job) i ≡ Some lane) (sym e) a in
           let b' : slice_get (set outs k q) k ≡ Some out = subst (λ i. slice_get (set outs k q) i ≡ Some out) (sym e) b in
-          let same : q ≡ out = same_some q out (sym (get_set_same outs k o q h) ∙ b') in
+          let same : q ≡ out = same_Some q out (sym (get_set_same outs k o q h) ∙ b') in
           subst (λ i. IsOut setup begin rows graph feeds ended i lane out) e (subst (IsOut setup begin rows graph feeds ended k lane) same (here lane a'))
       go (inr n) = other j lane out n a (sym (get_set_other outs k j q n) ∙ b)
 
@@ -108,7 +106,7 @@ module _ (setup : SetupView) (begin : Begin) (xs : List ℕ) (rows : List Row) w
     places_are = law.places_are;
     outs_are = length_set f.outs k (record o { items = o.items ++ fed_item f.issued row ∷ [] }) ∙ law.outs_are;
     outs = each_out law.graph (f.feeds ++ Fed (suc f.row) ∷ []) f.ended f.outs k o (record o { items = o.items ++ fed_item f.issued row ∷ [] }) h
-        (λ lane a. subst (λ x. IsOut setup begin rows law.graph (f.feeds ++ Fed (suc f.row) ∷ []) f.ended k x (record o { items = o.items ++ fed_item f.issued row ∷ [] })) (same_some found lane (sym l ∙ a)) (here (law.outs k found o l h)))
+        (λ lane a. subst (λ x. IsOut setup begin rows law.graph (f.feeds ++ Fed (suc f.row) ∷ []) f.ended k x (record o { items = o.items ++ fed_item f.issued row ∷ [] })) (same_Some found lane (sym l ∙ a)) (here (law.outs k found o l h)))
         (λ j lane out n a b. elsewhere j lane out (λ e. n (one_place setup.job k j lane (l ∙ ap Some e) a)) (law.outs j lane out a b));
     ended_within = (let e = length_set f.outs k (record o { items = o.items ++ fed_item f.issued row ∷ [] }) in let w = law.ended_within in omega (arith, e, w));
     ending = λ p. let e = (law.ending p).0 in absurd (omega (arith, e, lt));
@@ -256,8 +254,8 @@ module _ (setup : SetupView) (begin : Begin) (xs : List ℕ) (rows : List Row) w
     all_ended = law.all_ended;
     boxes = law.boxes;
     held = λ t other h g.
-        let t' : fed_tuple f.issued row ≡ t = same_some (fed_tuple f.issued row) t h in
-        let r : row ≡ other = same_some row other (sym by ∙ g) in
+        let t' : fed_tuple f.issued row ≡ t = same_Some (fed_tuple f.issued row) t h in
+        let r : row ≡ other = same_Some row other (sym by ∙ g) in
         subst (λ (z : Tuple). record z { issued = f.issued } ≡ fed_tuple f.issued other) t' (ap (fed_tuple f.issued) r);
   }
 

@@ -1,7 +1,7 @@
 -- What may be put on the lanes of the sources.
 use Rattle.std.proofs.Common.{◌≡◌, ◌∙◌, ◌+◌, ◌++◌, ◌∷◌, ℕ, List, [], refl, sym, subst, ap, true, false, None, Some, Option, map, slice_get}
 use Rattle.std.specs.Prelude.{slice_set}
-use Rattle.std.proofs.lemmas.Option.{slice_get-get_or}
+use Rattle.std.proofs.lemmas.Option.{same_Some, slice_get-get_or}
 use Rattle.flow_dag.specs.Edges.{HasEdge}
 use Rattle.flow_dag.specs.Graph.{IsEdge}
 use Rattle.flow_dag.specs.declared.edge.Edge.{Edge}
@@ -34,7 +34,6 @@ use Rattle.coordinator.specs.Feeding.{IsOut, fed_lanes}
 use Rattle.coordinator.specs.Steps.{Feeds}
 use Rattle.coordinator.specs.Turning.{IsLaneOfRow}
 use Rattle.coordinator.specs.declared.feeding.FeedTurn.TheVariants.{Idle, Moved}
-use Rattle.coordinator.proofs.ListLemmas.{same_some}
 
 pub no_sender : (sender : Option ℕ) → is_same_sender None sender ≡ true → sender ≡ None
 no_sender None e = refl
@@ -50,7 +49,7 @@ from_source : (job : JobView) (place number : ℕ) (lane : Lane) (edge : Edge) �
     → is_source_node (slice_get job.nodes edge.from) ≡ true
 from_source job place number lane edge g n e =
     let is : LaneIs job lane = lane_is job number lane n in
-    let same : is.edge ≡ edge = same_some is.edge edge (sym is.edge_is ∙ e) in
+    let same : is.edge ≡ edge = same_Some is.edge edge (sym is.edge_is ∙ e) in
     sender_source job edge.from (subst (λ s. IsIn s (senders job edge.from)) (fed_by job place lane g) (subst (λ (x : Edge). IsIn lane.sender (senders job x.from)) same is.sends))
 
 pub unled : (job : JobView) (node : ℕ) → IsLawful job → is_source_node (slice_get job.nodes node) ≡ true → (a : ℕ) → ¬ HasEdge job.edges a node

@@ -1,5 +1,6 @@
 -- Lists, place by place.
 use Rattle.std.proofs.Common.{◌≡◌, ◌≢◌, ◌⊎◌, ◌∙◌, ◌<◌, ◌≤◌, ℕ, zero, suc, List, [], ◌∷◌, ◌++◌, inl, inr, refl, sym, subst, ap, arith, length, take, drop, set, Some, slice_get, append_assoc}
+use Rattle.std.proofs.lemmas.Option.{same_Some}
 
 -- each element and the one that stands in its place now
 abbrev pub Pairs : {A : Type 0} → (ℕ → A → A → Type 0) → List A → List A → Type 0
@@ -28,9 +29,6 @@ here_or_not zero (suc i) = inr (λ e. absurd (omega (arith, e)))
 here_or_not (suc k) zero = inr (λ e. absurd (omega (arith, e)))
 here_or_not (suc k) (suc i) = elim (here_or_not k i) [ inl e ↦ inl (ap suc e) | inr n ↦ inr (λ e. n (omega (arith, e))) ]
 
-pub same_some : {A : Type 0} (x y : A) → Some x ≡ Some y → x ≡ y
-same_some x y e = cc
-
 -- one element changes
 pub pairs_set : {A : Type 0} (R S : ℕ → A → A → Type 0) (old now : List A) (k : ℕ) (x y : A) → Pairs R old now → slice_get now k ≡ Some x →
     ((i : ℕ) (p q : A) → k ≢ i → R i p q → S i p q) → ((p : A) → slice_get old k ≡ Some p → R k p x → S k p y) → Pairs S old (set now k y)
@@ -39,7 +37,7 @@ pairs_set {A = A} R S old now k x y h g other here = (length_set now k y ∙ h.0
     go : (i : ℕ) (p q : A) → slice_get old i ≡ Some p → slice_get (set now k y) i ≡ Some q → (k ≡ i) ⊎ (k ≢ i) → S i p q
     go i p q a b (inl e) =
         let b' : slice_get (set now k y) k ≡ Some q = subst (λ j. slice_get (set now k y) j ≡ Some q) (sym e) b in
-        let same : y ≡ q = same_some y q (sym (get_set_same now k x y g) ∙ b') in
+        let same : y ≡ q = same_Some y q (sym (get_set_same now k x y g) ∙ b') in
         let a' : slice_get old k ≡ Some p = subst (λ j. slice_get old j ≡ Some p) (sym e) a in
         subst (λ j. S j p q) e (subst (λ z. S k p z) same (here p a' (h.1 k p x a' g)))
     go i p q a b (inr n) = other i p q n (h.1 i p q a (sym (get_set_other now k i y n) ∙ b))

@@ -1,7 +1,7 @@
 -- The rows that the requests of a live feeder wait for.
 use Rattle.std.proofs.Common.{◌≡◌, ◌⊎◌, ◌∙◌, ◌+◌, ◌-◌, ◌<◌, ◌≤◌, ℕ, zero, suc, List, [], ◌∷◌, ◌++◌, inl, inr, refl, sym, subst, ap, true, false, arith, length, drop, min, Some, slice_get, append_assoc, Bool, cond, ◌==◌}
 use Rattle.std.specs.Prelude.{nat_le, replicate}
-use Rattle.std.proofs.lemmas.Option.{slice_get_within}
+use Rattle.std.proofs.lemmas.Option.{same_Some, slice_get_within}
 use Rattle.std.proofs.lemmas.List.{length-append}
 use Rattle.sink_journal.specs.declared.journal.Feed.{Feed}
 use Rattle.sink_journal.specs.declared.journal.Feed.TheVariants.{Fed, Issued, Stopped}
@@ -10,7 +10,6 @@ use Rattle.flow_model.proofs.WorkerLemmas.{item_at}
 use Rattle.coordinator.specs.Feeding.{AreRising, issue_rows, issued_in}
 use Rattle.coordinator.specs.Live.{AreNumbered, fed_in, released_rows}
 use Rattle.coordinator.specs.Steps.{IsAhead, IsReached}
-use Rattle.coordinator.proofs.ListLemmas.{same_some}
 use Rattle.coordinator.proofs.Rests.{AreLater, later_rising, rest_feed, rest_issue}
 
 -- ---- the rows of requests that aren't released
@@ -42,11 +41,11 @@ get_unreleased (suc n) rows (x ∷ xs) (suc k) a g le = get_unreleased n rows xs
 pub at_released : (released rows : ℕ) (xs : List ℕ) (k b : ℕ) → slice_get (released_rows released rows xs) k ≡ Some b
     → (a : ℕ) × (slice_get xs k ≡ Some a) × (((k < released) × (b ≡ a)) ⊎ ((released ≤ k) × (b ≡ rows)))
 at_released released rows [] k b g = absurd (cc)
-at_released zero rows (x ∷ xs) zero b g = (x, refl, inr (omega arith, sym (same_some rows b g)))
+at_released zero rows (x ∷ xs) zero b g = (x, refl, inr (omega arith, sym (same_Some rows b g)))
 at_released zero rows (x ∷ xs) (suc k) b g =
     let h = at_released zero rows xs k b g in
     (h.0, h.1, elim h.2 [ inl p ↦ (let lt = p.0 in absurd (omega (arith, lt))) | inr p ↦ inr (omega arith, p.1) ])
-at_released (suc n) rows (x ∷ xs) zero b g = (x, refl, inl (omega arith, sym (same_some x b g)))
+at_released (suc n) rows (x ∷ xs) zero b g = (x, refl, inl (omega arith, sym (same_Some x b g)))
 at_released (suc n) rows (x ∷ xs) (suc k) b g =
     let h = at_released n rows xs k b g in
     (h.0, h.1, elim h.2 [ inl p ↦ inl ((let lt = p.0 in omega (arith, lt)), p.1) | inr p ↦ inr ((let le = p.0 in omega (arith, le)), p.1) ])
@@ -195,7 +194,7 @@ fed_within issued rows xs feeds row is going =
 -- where the last row stood first, another row stands
 pub at_swapped : (xs : List ℕ) (row rows : ℕ) (rest : List ℕ) (place w : ℕ) → slice_get (xs ++ row ∷ rest) place ≡ Some w
     → ((place ≡ length xs) × (w ≡ row)) ⊎ (slice_get (xs ++ rows ∷ rest) place ≡ Some w)
-at_swapped [] row rows rest zero w g = inl (refl, sym (same_some row w g))
+at_swapped [] row rows rest zero w g = inl (refl, sym (same_Some row w g))
 at_swapped [] row rows rest (suc place) w g = inr g
 at_swapped (x ∷ xs) row rows rest zero w g = inr g
 at_swapped (x ∷ xs) row rows rest (suc place) w g = elim (at_swapped xs row rows rest place w g) [ inl p ↦ inl (ap suc p.0, p.1) | inr h ↦ inr h ]
@@ -207,10 +206,10 @@ length_replicate (suc k) x = ap suc (length_replicate k x)
 -- behind the requests that are issued stands the last row
 pub at_waiting : (xs : List ℕ) (count rows a : ℕ) → slice_get (xs ++ replicate count rows) (length xs) ≡ Some a → (a ≡ rows) × (0 < count)
 at_waiting [] zero rows a g = absurd (cc)
-at_waiting [] (suc count) rows a g = (sym (same_some rows a g), omega arith)
+at_waiting [] (suc count) rows a g = (sym (same_Some rows a g), omega arith)
 at_waiting (x ∷ xs) count rows a g = at_waiting xs count rows a g
 
 pub at_replicate : (k x place y : ℕ) → slice_get (replicate k x) place ≡ Some y → y ≡ x
 at_replicate zero x place y g = absurd (cc)
-at_replicate (suc k) x zero y g = sym (same_some x y g)
+at_replicate (suc k) x zero y g = sym (same_Some x y g)
 at_replicate (suc k) x (suc place) y g = at_replicate k x place y g

@@ -2,7 +2,7 @@
 use Rattle.std.proofs.Common.{◌≡◌, ◌∙◌, ◌+◌, ◌-◌, ◌<◌, ◌≤◌, ℕ, zero, suc, List, [], ◌∷◌, ◌++◌, refl, sym, subst, ap, true, false, Bool, cond, arith, length, drop, filter, Option, None, Some, slice_get, append_assoc}
 use Rattle.std.specs.Option.{option_map}
 use Rattle.std.specs.List.{enumerate_from}
-use Rattle.std.proofs.lemmas.Option.{slice_get_within}
+use Rattle.std.proofs.lemmas.Option.{same_Some, slice_get_within}
 use Rattle.flow_dag.specs.declared.edge.Edge.{Edge}
 use Rattle.jobs.specs.Law.{IsLawful}
 use Rattle.jobs.specs.Nodes.{IsSourceOf}
@@ -14,7 +14,7 @@ use Rattle.flow_model.specs.Topology.{IsNumberOf}
 use Rattle.flow_model.specs.declared.topology.Lane.{Lane}
 use Rattle.flow_model.proofs.OutLanes.{lane_from_source}
 use Rattle.coordinator.specs.Feeding.{fed_lanes, places_after, places_of}
-use Rattle.coordinator.proofs.ListLemmas.{drop_at, same_some}
+use Rattle.coordinator.proofs.ListLemmas.{drop_at}
 
 abbrev fed : Lane → Bool
 fed lane = is_same_sender None lane.sender
@@ -37,8 +37,8 @@ at_place : (all : List Lane) (k n p : ℕ) (lane : Lane) → slice_get all n ≡
     → (k ≤ p) × (slice_get (filter fed all) (p - k) ≡ Some lane)
 at_place [] k n p lane g e h = absurd (cc)
 at_place (l ∷ ls) k zero p lane g e h =
-    let same : l ≡ lane = same_some l lane g in
-    let number : k ≡ p = same_some k p h in
+    let same : l ≡ lane = same_Some l lane g in
+    let number : k ≡ p = same_Some k p h in
     let none : p - k ≡ 0 = omega (arith, number) in
     let first : fed l ≡ true = ap fed same ∙ e in
     (omega (arith, number), ap (λ (xs : List Lane). slice_get xs (p - k)) (ap (λ b. cond b (l ∷ filter fed ls) (filter fed ls)) first) ∙ (ap (slice_get (l ∷ filter fed ls)) none ∙ g))
@@ -68,7 +68,7 @@ sent_by_feeder job (Some out) t lane e = go (receiver_of job out.1 t) e
   where
     go : (o : Option Worker) → option_map (λ (post : Worker). record { edge = out.0; sender = None; receiver = post.number }) o ≡ Some lane → lane.sender ≡ None
     go None e = absurd (cc)
-    go (Some post) e = let same : record { edge = out.0; sender = None; receiver = post.number } ≡ lane = same_some _ lane e in ap (λ (l : Lane). l.sender) (sym same)
+    go (Some post) e = let same : record { edge = out.0; sender = None; receiver = post.number } ≡ lane = same_Some _ lane e in ap (λ (l : Lane). l.sender) (sym same)
 
 -- what the topology finds for a row
 pub row_number : (job : JobView) (source number : ℕ) (t : Tuple) → IsSourceOf job source

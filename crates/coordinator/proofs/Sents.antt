@@ -1,5 +1,6 @@
 -- What the feed puts on a lane.
 use Rattle.std.proofs.Common.{◌≡◌, ◌∙◌, ◌+◌, ℕ, suc, List, [], ◌∷◌, ◌++◌, refl, sym, ap, true, false, Bool, arith, Option, Some, None, slice_get, append_assoc, append-nil}
+use Rattle.std.proofs.lemmas.Option.{same_Some}
 use Rattle.jobs.specs.JobView.{JobView}
 use Rattle.sink_journal.specs.declared.journal.Feed.{Feed}
 use Rattle.sink_journal.specs.declared.journal.Feed.TheVariants.{Fed, Issued, Stopped}
@@ -13,7 +14,6 @@ use Rattle.flow_model.proofs.ElementLemmas.{distinct_filter, same_place}
 use Rattle.flow_model.proofs.LaneLemmas.{lane_self, lanes_distinct, same_lane}
 use Rattle.coordinator.specs.Feeding.{fed_lanes, issued_in}
 use Rattle.coordinator.specs.Steps.{fed_item}
-use Rattle.coordinator.proofs.ListLemmas.{same_some}
 
 pub items_append : (lane : Lane) (ps qs : List Put) → items_on lane (ps ++ qs) ≡ items_on lane ps ++ items_on lane qs
 items_append lane [] qs = refl
@@ -73,7 +73,7 @@ row_else job rows issued i row found lane g l n =
     ap (items_on lane) (puts_row job rows issued i row found g l) ∙ there (is_same_lane (Some found) lane) refl
   where
     there : (b : Bool) → is_same_lane (Some found) lane ≡ b → items_on lane (record { lane = Some found; item = fed_item issued row } ∷ []) ≡ []
-    there true e = absurd (n (same_some found lane (same_lane (Some found) lane e)))
+    there true e = absurd (n (same_Some found lane (same_lane (Some found) lane e)))
     there false e = rw e refl
 
 pub one_place : (job : JobView) (i j : ℕ) (lane : Lane) → slice_get (fed_lanes job) i ≡ Some lane → slice_get (fed_lanes job) j ≡ Some lane → i ≡ j

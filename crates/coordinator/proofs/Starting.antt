@@ -3,6 +3,7 @@ use Rattle.std.proofs.Common.{◌≡◌, ◌∙◌, ◌+◌, ◌≤◌, ℕ, zer
 use Rattle.std.specs.List.{enumerate_from}
 use Rattle.std.specs.Prelude.{replicate}
 use Rattle.std.proofs.lemmas.List.{length-map}
+use Rattle.std.proofs.lemmas.Option.{same_Some}
 use Rattle.control_box.specs.Endpoints.{PosterIs}
 use Rattle.jobs.specs.JobView.{JobView}
 use Rattle.sink_journal.specs.declared.journal.Feed.{Feed}
@@ -21,7 +22,6 @@ use Rattle.flow_model.specs.NewEndpoint.{IsNewEndpoint}
 use Rattle.coordinator.specs.Boxes.{AreBoxes}
 use Rattle.coordinator.proofs.Issuing.{first_boxes}
 use Rattle.coordinator.proofs.Keeping.{no_end}
-use Rattle.coordinator.proofs.ListLemmas.{same_some}
 
 abbrev pub new_feeder : List Feed → List EndpointIs → BoxesIs → List ℕ → ℕ → ℕ → FeederIs
 new_feeder feeds outs boxes places row turned = record {
@@ -51,12 +51,12 @@ numbered test n (l ∷ ls) = go (test l) (numbered test (n + 1) ls)
 
 map_get : {A B : Type 0} (f : A → B) (xs : List A) (k : ℕ) (y : B) → slice_get (map f xs) k ≡ Some y → (x : A) × (slice_get xs k ≡ Some x) × (f x ≡ y)
 map_get f [] k y h = absurd (cc)
-map_get f (x ∷ xs) zero y h = (x, refl, same_some (f x) y h)
+map_get f (x ∷ xs) zero y h = (x, refl, same_Some (f x) y h)
 map_get f (x ∷ xs) (suc k) y h = map_get f xs k y h
 
 get_map : {A B : Type 0} (f : A → B) (xs : List A) (k : ℕ) (x : A) → slice_get xs k ≡ Some x → slice_get (map f xs) k ≡ Some (f x)
 get_map f [] k x h = absurd (cc)
-get_map f (z ∷ xs) zero x h = ap Some (ap f (same_some z x h))
+get_map f (z ∷ xs) zero x h = ap Some (ap f (same_Some z x h))
 get_map f (z ∷ xs) (suc k) x h = get_map f xs k x h
 
 -- the end at a place has the number of the lane at that place
@@ -68,7 +68,7 @@ number_at job outs k lane out are g h =
     let a : slice_get (map (λ (p : ℕ × Lane). p.0) among) k ≡ Some out.number = ap (λ (l : List ℕ). slice_get l k) (sym are) ∙ get_map (λ (o : EndpointIs). o.number) outs k out h in
     let p = map_get (λ (p : ℕ × Lane). p.0) among k out.number a in
     let b : slice_get (map (λ (p : ℕ × Lane). p.1) among) k ≡ Some lane = ap (λ (l : List Lane). slice_get l k) (sym (numbered test 0 (lanes job))) ∙ g in
-    let q : p.0.1 ≡ lane = same_some p.0.1 lane (sym (get_map (λ (p : ℕ × Lane). p.1) among k p.0 p.1) ∙ b) in
+    let q : p.0.1 ≡ lane = same_Some p.0.1 lane (sym (get_map (λ (p : ℕ × Lane). p.1) among k p.0 p.1) ∙ b) in
     let i = in_enumerate 0 (lanes job) p.0 (in_filter (λ (p : ℕ × Lane). test p.1) p.0 (enumerate_from 0 (lanes job)) (in_of_place p.0 among k p.1)).0 in
     let at : i.0 ≡ out.number = omega (arith, i.1, p.2) in
     subst (λ n. slice_get (lanes job) n ≡ Some lane) at (i.2 ∙ ap Some q)
@@ -97,7 +97,7 @@ law_first setup begin xs rows outs b places at o le are boxes = record {
   outs = λ k lane out g h.
       let new : IsNewEndpoint setup.job are.graph out = are.new k out h in
       let n : slice_get (lanes setup.job) out.number ≡ Some lane = number_at setup.job outs k lane out are.numbers_are g h in
-      let same : new.lane ≡ lane = same_some new.lane lane (sym new.numbered ∙ n) in
+      let same : new.lane ≡ lane = same_Some new.lane lane (sym new.numbered ∙ n) in
       record {
         edge = new.edge;
         numbered = n;

@@ -1,6 +1,6 @@
 -- What a turn's answer tells.
 use Rattle.std.proofs.Common.{◌≡◌, ◌≢◌, ◌∙◌, ◌↔◌, ◌+◌, ◌<◌, ℕ, zero, suc, arith, min, List, [], ◌∷◌, ◌++◌, inl, inr, refl, sym, subst, ap, true, false, length, map, set, Some, slice_get}
-use Rattle.std.proofs.lemmas.Option.{slice_get_within}
+use Rattle.std.proofs.lemmas.Option.{same_Some, slice_get_within}
 use Rattle.control_box.specs.Endpoints.{PosterIs}
 use Rattle.std.proofs.lemmas.List.{length-map}
 use Rattle.sink_journal.specs.declared.journal.Feed.TheVariants.{Fed, Issued, Stopped}
@@ -20,7 +20,7 @@ use Rattle.coordinator.specs.Turning.{AtMostOneMore, Grew, IsFeederTurn, Waits}
 use Rattle.coordinator.specs.declared.feeding.FeedTurn.{FeedTurn}
 use Rattle.coordinator.specs.declared.feeding.FeedTurn.TheVariants.{Done, Idle, Moved, NoMemory}
 use Rattle.coordinator.proofs.Keeping.{keeps}
-use Rattle.coordinator.proofs.ListLemmas.{get_set_same, same_some}
+use Rattle.coordinator.proofs.ListLemmas.{get_set_same}
 
 -- ---- ends
 
@@ -111,10 +111,10 @@ moved_grew setup xs rows old new (inr (inr (inr h))) =
 -- ---- boxes
 
 same_boxes : (ps : List PosterIs) → SameBoxes ps ps
-same_boxes ps = (refl, λ w p q a b. ap (λ (z : PosterIs). z.within) (same_some q p (sym b ∙ a)))
+same_boxes ps = (refl, λ w p q a b. ap (λ (z : PosterIs). z.within) (same_Some q p (sym b ∙ a)))
 
 same_posts : (ps : List PosterIs) → SamePosts ps ps
-same_posts ps = λ w p q a b. ap (λ (z : PosterIs). z.posted) (same_some q p (sym b ∙ a))
+same_posts ps = λ w p q a b. ap (λ (z : PosterIs). z.posted) (same_Some q p (sym b ∙ a))
 
 boxes_as : (old new : FeederIs) → new.boxes.posters ≡ old.boxes.posters → SameBoxes old.boxes.posters new.boxes.posters
 boxes_as old new e = subst (SameBoxes old.boxes.posters) (sym e) (same_boxes old.boxes.posters)
@@ -262,7 +262,7 @@ pub is_feeder : (setup : SetupView) (begin : Begin) (rows : List Row) (f : Feede
 is_feeder setup begin rows f law = record {
   feeding = law;
   issued_exist = (let le = law.issued_within in let e = length-map setup.requests (λ (request : Request). request.after) in omega (arith, le, e));
-  not_before = λ k a b g h. (let e = same_some a b (sym g ∙ h) in omega (arith, e));
+  not_before = λ k a b g h. (let e = same_Some a b (sym g ∙ h) in omega (arith, e));
   released = λ e. absurd (cc);
 }
 

@@ -2,7 +2,7 @@
 use Rattle.std.proofs.Common.{◌≡◌, ◌∙◌, ◌+◌, ◌-◌, ◌<◌, ◌≤◌, ℕ, suc, List, [], ◌∷◌, ◌++◌, inl, inr, refl, sym, subst, ap, true, false, arith, length, min, take, Some, slice_get, append_assoc}
 use Rattle.std.specs.Prelude.{replicate}
 use Rattle.std.proofs.lemmas.List.{length-append, length-map}
-use Rattle.std.proofs.lemmas.Option.{slice_get_within}
+use Rattle.std.proofs.lemmas.Option.{same_Some, slice_get_within}
 use Rattle.sink_journal.specs.declared.journal.Feed.TheVariants.{Issued}
 use Rattle.tuple_trace.specs.declared.row.Row.{Row}
 use Rattle.versions.specs.declared.request.Request.{Request}
@@ -16,7 +16,7 @@ use Rattle.coordinator.specs.Live.{IsFromFirst, fed_in, released_rows}
 use Rattle.coordinator.specs.Steps.{IsAhead, IsReached}
 use Rattle.coordinator.specs.Views.{BoxesIs, FeederIs}
 use Rattle.coordinator.proofs.Keeping.{law_issue}
-use Rattle.coordinator.proofs.ListLemmas.{also_in, same_some}
+use Rattle.coordinator.proofs.ListLemmas.{also_in}
 use Rattle.coordinator.proofs.LiveLemmas.{at_released, at_swapped, at_waiting, fed_within, feed_of_rows, get_past, issue_rows-append, length_issue_rows, length_released, length_replicate, rising_last, rising_rest}
 
 -- the rows that the requests wait for, at a feeder that began at the first row
@@ -148,7 +148,7 @@ module _ (setup : SetupView) (begin : Begin) (rows : List Row) where
       row_reached : (after : ℕ) → slice_get (afters setup.requests) f.issued ≡ Some after → min after (length rows) ≤ f.row
       row_reached after g =
           let at = at_released released (length rows) (afters setup.requests) f.issued due.0 due.1 in
-          let same : at.0 ≡ after = same_some at.0 after (sym at.1 ∙ g) in
+          let same : at.0 ≡ after = same_Some at.0 after (sym at.1 ∙ g) in
           let le = due.2 in
           elim at.2 [ inl p ↦ (let e = p.1 in omega (arith, e, same, le)) | inr p ↦ (let e = p.1 in omega (arith, e, le)) ]
 

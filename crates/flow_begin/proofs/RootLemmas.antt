@@ -1,10 +1,8 @@
 -- Every entry of a run from a beginning on that meets a tuple descends from the entry that first met its row, and that one is alone.
 use Rattle.std.proofs.Common.{◌≡◌, ◌∙◌, ◌<◌, ◌+◌, ◌++◌, ℕ, zero, suc, List, [], ◌∷◌, ◌⊎◌, inl, inr, refl, sym, subst, ap, arith, length, flat_map, take, Some, None, Option, slice_get}
-use Rattle.std.proofs.lemmas.Bool.{eq-eqb}
 use Rattle.flow_dag.specs.Edges.{HasEdge}
 use Rattle.flow_dag.proofs.EdgeLemmas.{HasEdge-at}
 use Rattle.jobs.specs.JobView.{JobView}
-use Rattle.sink_journal.specs.declared.journal.Entry.{Entry}
 use Rattle.sink_journal.specs.declared.journal.Entry.TheVariants as entry
 use Rattle.sink_journal.specs.declared.journal.Feed.{Feed}
 use Rattle.sink_journal.specs.declared.journal.Feed.TheVariants as feed
@@ -17,7 +15,6 @@ use Rattle.flow_model.specs.Begin.{Begin}
 use Rattle.flow_model.specs.Feeding.{fed, fed_put, fed_puts, fed_tuple, row_numbered}
 use Rattle.flow_model.specs.Lanes.{lane_of, lanes}
 use Rattle.flow_model.specs.declared.topology.Lane.{Lane}
-use Rattle.flow_model.specs.SetupView.{SetupView}
 use Rattle.flow_model.specs.Replay.{Put, came_in, item_on, shown}
 use Rattle.flow_model.specs.Requests.{afters}
 use Rattle.flow_model.specs.Run.{Ran}
@@ -27,9 +24,9 @@ use Rattle.flow_model.proofs.MarkerLemmas.{met_on_lane}
 use Rattle.flow_model.proofs.SendingLemmas.{on_lane}
 use Rattle.flow_model.proofs.StoryLemmas.{put_then, sent-story}
 use Rattle.flow_model.proofs.WorkerLemmas.{Stands, get_append, journal_of, worker_is, worker_no}
-use Rattle.flow_model.proofs.PlaceLemmas.{IsFrom, IsKeptFrom, filter_map_place, flat_map_get, flat_map_place, flat_map_same}
+use Rattle.flow_model.proofs.PlaceLemmas.{IsFrom, IsKeptFrom, filter_map_place, flat_map_place, flat_map_same}
 use Rattle.flow_model.proofs.LineageLemmas.{Address, Meets, came_in_some, delivered_before, put_before, same_address}
-use Rattle.flow_model.proofs.RootLemmas.{FeedsRise, feed_rises}
+use Rattle.flow_model.proofs.RootLemmas.{FeedsRise, feed_rises, met_there}
 use Rattle.flow_model.proofs.RunLemmas.{HasWorker, row_is}
 use Rattle.flow_begin.proofs.LineageLemmas.{Born, Child, IsChain, born, chain_push, puts_of, sent_before, story_of}
 use Rattle.flow_begin.proofs.RunLemmas.{RunningFrom, begun_from, duties_from, execution, fed_there, sender_of, sent_there, start_from}
@@ -139,14 +136,6 @@ pub record Parent (begin : Begin) (ran : Ran) (c : Address) (node : ℕ) : Type 
   pub parent : Address
   pub child : Child begin ran parent c
   pub stands : Stands ran.setup node parent.worker
-
-met_there : (setup : SetupView) (n i : ℕ) (t : Tuple) (journal : List Entry) → slice_get journal i ≡ Some (entry.Met n t)
-    → slice_get (shown setup n journal) (length (shown setup n (take i journal))) ≡ Some (item.Carry t)
-met_there setup n i t journal g =
-    let h : slice_get (came_in setup n (entry.Met n t)) 0 ≡ Some (item.Carry t) = rw (eq-eqb n n refl) refl in
-    let k = flat_map_get (came_in setup n) journal i 0 (entry.Met n t) (item.Carry t) g h in
-    let e : length (shown setup n (take i journal)) + 0 ≡ length (shown setup n (take i journal)) = omega arith in
-    rw e at k
 
 module _ (begin : Begin) (rows : List Row) (ran : Ran) (g : RunningFrom begin rows ran) where
   from_feeder : (c : Address) (n : ℕ) (t : Tuple) → HasWorker ran c.worker → slice_get (journal_of ran c.worker) c.entry ≡ Some (entry.Met n t)

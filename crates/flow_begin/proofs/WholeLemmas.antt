@@ -1,6 +1,5 @@
 -- In a run from a beginning on each row is whole at each request.
 use Rattle.std.proofs.Common.{◌≡◌, ◌∙◌, ◌≢◌, ◌<◌, ◌≤◌, ◌+◌, ◌-◌, ℕ, zero, suc, List, [], ◌∷◌, ◌⊎◌, inl, inr, refl, sym, subst, ap, arith, true, false, Bool, length, Option, None, Some, slice_get}
-use Rattle.std.proofs.lemmas.Bool.{cases_eq}
 use Rattle.flow_dag.specs.Edges.{HasEdge}
 use Rattle.flow_dag.specs.Paths.{IsOrReaches, Reaches}
 use Rattle.flow_dag.proofs.PathLemmas.{IsOrReaches-edge, IsOrReaches-here, IsOrReaches-trans, Reaches-from_steps}
@@ -28,7 +27,7 @@ use Rattle.flow_model.specs.Workers.{workers_in}
 use Rattle.flow_model.proofs.ElementLemmas.{IsIn, any_in, before_first, filter_in, filter_map_in, in_filter, in_filter_map}
 use Rattle.flow_model.proofs.WorkerLemmas.{IsWorker, in_workers, in_workers_at_node, journal_is, journal_of, who_is, worker_no, worker_is}
 use Rattle.flow_model.proofs.MarkerLemmas.{turned_is_due}
-use Rattle.flow_model.proofs.PlannedLemmas.{covers_within, dues_rise}
+use Rattle.flow_model.proofs.PlannedLemmas.{covers_within, dues_rise, numbers_in}
 use Rattle.flow_model.proofs.SendingLemmas.{made}
 use Rattle.flow_model.proofs.StoryLemmas.{Moment, rising_in}
 use Rattle.flow_model.proofs.AgreementLemmas.{HasAgreed, IsNew, IsOld}
@@ -235,14 +234,6 @@ asked_journal ran r journal h =
     }
 
 -- ---- what is due after a beginning
-
-numbers_in : (first count r : ℕ) → first ≤ r → r < first + count → IsIn r (numbers_from first count)
-numbers_in first zero r le lt = absurd (omega arith)
-numbers_in first (suc count) r le lt =
-    elim (cases_eq r first) [
-      | inl e ↦ inl e
-      | inr ne ↦ inr (numbers_in (first + 1) count r (omega arith) (omega arith))
-    ]
 
 due_later : (setup : SetupView) (turned node r : ℕ) → turned < r → covers setup r node ≡ true → IsIn r (dues_after setup turned node)
 due_later setup turned node r above h =

@@ -3,7 +3,7 @@ use Rattle.std.proofs.Common.{◌≡◌, ◌∙◌, ◌+◌, ◌-◌, ◌==◌, 
 use Rattle.std.specs.Prelude.{IfSome}
 use Rattle.std.specs.List.{flat_map}
 use Rattle.std.specs.Option.{option_map}
-use Rattle.std.proofs.lemmas.Option.{slice_get-map}
+use Rattle.std.proofs.lemmas.Option.{same_Some, slice_get-map}
 use Rattle.jobs.specs.declared.func.Func.{Func}
 use Rattle.keyed_state.specs.Counts.{Counts}
 use Rattle.marker_align.specs.declared.decision.Due.{Due}
@@ -29,7 +29,6 @@ use Rattle.flow_worker.specs.Endpoints.{LaneInIs, LaneOutIs, in_hand, planned}
 use Rattle.flow_worker.specs.Pairs.{EachOne}
 use Rattle.flow_worker.specs.Worker.{IsEndpointIn, IsEndpointOut, IsPlaced, IsWorker, WorkerIs, edges_of, view_now, progress_now}
 use Rattle.flow_crew.specs.Crews.{IsCrew}
-use Rattle.coordinator.proofs.ListLemmas.{same_some}
 
 abbrev changes_of : List Request → List (List Change)
 changes_of requests = map (λ (request : Request). request.changes) requests
@@ -42,13 +41,13 @@ same_change_in : (q r : Option Request) (node : ℕ) → option_map (λ (request
 same_change_in None None node e = refl
 same_change_in None (Some r) node e = absurd (cc)
 same_change_in (Some q) None node e = absurd (cc)
-same_change_in (Some q) (Some r) node e = ap (λ cs. change_among cs node) (same_some q.changes r.changes e)
+same_change_in (Some q) (Some r) node e = ap (λ cs. change_among cs node) (same_Some q.changes r.changes e)
 
 same_change_at : (q r : Option Request) (place : ℕ) → option_map (λ (request : Request). request.changes) q ≡ option_map (λ (request : Request). request.changes) r → change_at q place ≡ change_at r place
 same_change_at None None place e = refl
 same_change_at None (Some r) place e = absurd (cc)
 same_change_at (Some q) None place e = absurd (cc)
-same_change_at (Some q) (Some r) place e = ap (λ (cs : List Change). slice_get cs place) (same_some q.changes r.changes e)
+same_change_at (Some q) (Some r) place e = ap (λ (cs : List Change). slice_get cs place) (same_Some q.changes r.changes e)
 
 module _ (setup : SetupView) (requests : List Request) (same : changes_of requests ≡ changes_of setup.requests) where
   abbrev ran : SetupView

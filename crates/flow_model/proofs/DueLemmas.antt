@@ -89,7 +89,7 @@ take_suc_here [] i x e = absurd (cc)
 take_suc_here (y ∷ xs) zero x e = e
 take_suc_here (y ∷ xs) (suc i) x e = take_suc_here xs i x e
 
-take_end : {A : Type 0} (xs : List A) (i : ℕ) → slice_get (take i xs) i ≡ None
+pub take_end : {A : Type 0} (xs : List A) (i : ℕ) → slice_get (take i xs) i ≡ None
 take_end [] zero = refl
 take_end [] (suc i) = refl
 take_end (x ∷ xs) zero = refl

@@ -13,13 +13,13 @@ or_assoc : (a b c : Bool) → (a || (b || c)) ≡ ((a || b) || c)
 or_assoc true b c = refl
 or_assoc false b c = refl
 
-or_last : (b : Bool) → (b || false) ≡ b
-or_last true = refl
-or_last false = refl
+pub or_false : (b : Bool) → (b || false) ≡ b
+or_false true = refl
+or_false false = refl
 
 -- one more item that may pass the test
 pub any_more : {A : Type 0} (test : A → Bool) (xs : List A) (x : A) → list_any test (xs ++ x ∷ []) ≡ (list_any test xs || test x)
-any_more test [] x = or_last (test x)
+any_more test [] x = or_false (test x)
 any_more test (y ∷ xs) x = ap (λ b. test y || b) (any_more test xs x) ∙ or_assoc (test y) (list_any test xs) (test x)
 
 -- the nodes of either mask

@@ -24,7 +24,7 @@ pub due_in : (r : ℕ) (dues : List ℕ) → next_due dues ≡ Some r → IsIn r
 due_in r [] n = absurd (cc)
 due_in r (d ∷ dues) n = inl (cc)
 
-later_in : (r : ℕ) (dues : List ℕ) → IsIn r (later_dues dues) → IsIn r dues
+pub later_in : (r : ℕ) (dues : List ℕ) → IsIn r (later_dues dues) → IsIn r dues
 later_in r [] h = absurd h
 later_in r (d ∷ dues) h = inr h
 

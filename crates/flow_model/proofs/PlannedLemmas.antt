@@ -114,7 +114,7 @@ copies_covered setup is (suc r) node a b to into m ne e v h f w k = go (slice_ge
         let second = leads_to_asked (HasEdge setup.job.edges) (Has plan.asked) b into w ((has-Has plan.asked into).0 k) in
         (has-Has plan.nodes node).1 ((p.planned.cover.nodes node).1 (inl ((p.planned.members node).1 (inr (inr (m, (a, b, ne, (e, first), (f, second))))))))
 
-heads_covered : (setup : SetupView) → IsPlanned setup → (r node : ℕ) → is_head setup r node ≡ true → covers setup r node ≡ true
+pub heads_covered : (setup : SetupView) → IsPlanned setup → (r node : ℕ) → is_head setup r node ≡ true → covers setup r node ≡ true
 heads_covered setup is zero node h = absurd (cc)
 heads_covered setup is (suc r) node h = go (slice_get setup.plans r) refl h
   where
@@ -139,7 +139,8 @@ has_covers setup planned = record {
 
 -- ---- the requests that cover a node
 
-numbers_in : (first count r : ℕ) → first ≤ r → r < first + count → IsIn r (numbers_from first count)
+pub numbers_in : (first count r : ℕ) → first ≤ r → r < first + count
+    → IsIn r (numbers_from first count)
 numbers_in first zero r le lt = absurd (omega arith)
 numbers_in first (suc count) r le lt =
     elim (cases_eq r first) [

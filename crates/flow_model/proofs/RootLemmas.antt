@@ -162,7 +162,7 @@ pub record Parent (ran : Ran) (c : Address) (node : ℕ) : Type 0 where
   pub child : Child ran parent c
   pub stands : Stands ran.setup node parent.worker
 
-met_there : (setup : SetupView) (n i : ℕ) (t : Tuple) (journal : List Entry) → slice_get journal i ≡ Some (entry.Met n t)
+pub met_there : (setup : SetupView) (n i : ℕ) (t : Tuple) (journal : List Entry) → slice_get journal i ≡ Some (entry.Met n t)
     → slice_get (shown setup n journal) (length (shown setup n (take i journal))) ≡ Some (item.Carry t)
 met_there setup n i t journal g =
     let h : slice_get (came_in setup n (entry.Met n t)) 0 ≡ Some (item.Carry t) = rw (eq-eqb n n refl) refl in

@@ -65,7 +65,7 @@ func_gap setup node f low (suc more) h =
 abbrev HasDues : SetupView → ℕ → ℕ → List ℕ → Type 0
 HasDues setup node last dues = (r : ℕ) → last < r → covers setup r node ≡ true → IsIn r dues
 
-with_func : (o : Option Change) (view : StateView) → (after_change o view).func ≡ func_with o view.func
+pub with_func : (o : Option Change) (view : StateView) → (after_change o view).func ≡ func_with o view.func
 with_func None view = refl
 with_func (Some change) view = refl
 

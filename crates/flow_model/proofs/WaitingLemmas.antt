@@ -4,21 +4,18 @@ use Rattle.std.specs.Prelude.{IsTrue}
 use Rattle.std.specs.List.{list_any}
 use Rattle.std.specs.Option.{option_map}
 use Rattle.std.proofs.lemmas.List.{length-map}
-use Rattle.std.proofs.lemmas.Option.{slice_get-map}
+use Rattle.std.proofs.lemmas.Option.{same_Some, slice_get-map}
 use Rattle.jobs.specs.JobView.{JobView}
 use Rattle.versions.specs.Book.{first_book, is_named}
 use Rattle.versions.specs.Judged.{AreAccepted}
 use Rattle.versions.specs.Kept.{AreInOrder}
 use Rattle.versions.specs.declared.request.Change.{Change}
 use Rattle.versions.specs.declared.request.Request.{Request}
-use Rattle.versions.proofs.WaitingLemmas.{accepted_like}
+use Rattle.versions.proofs.WaitingLemmas.{accepted_like, head_same, tail_same}
 use Rattle.flow_model.specs.SetupView.{SetupView}
 use Rattle.flow_model.specs.Planned.{IsPlanned, is_split_node, makes_split, splits_at}
 use Rattle.versions.specs.Waiting.{changes_of}
 use Rattle.flow_model.specs.Waiting.{waiting_for, with_afters}
-
-same_some : {A : Type 0} (x y : A) → Some x ≡ Some y → x ≡ y
-same_some x y e = cc
 
 pub changes-with_afters : (afters : List ℕ) (requests : List Request) → changes_of (with_afters afters requests) ≡ changes_of requests
 changes-with_afters [] requests = refl
@@ -32,12 +29,6 @@ accepted_waiting job afters requests e o = accepted_like job (first_book job.nod
 
 -- ---- plans
 
-head_same : (x y : List Change) (xs ys : List (List Change)) → x ∷ xs ≡ y ∷ ys → x ≡ y
-head_same x y xs ys e = cc
-
-tail_same : (x y : List Change) (xs ys : List (List Change)) → x ∷ xs ≡ y ∷ ys → xs ≡ ys
-tail_same x y xs ys e = cc
-
 -- the request at a place changes what it changed
 request_like : (qs rs : List Request) (k : ℕ) (r : Request) → changes_of rs ≡ changes_of qs → slice_get rs k ≡ Some r → (q : Request) × (slice_get qs k ≡ Some q) × (r.changes ≡ q.changes)
 request_like qs rs k r same g = go (slice_get qs k) refl
@@ -45,7 +36,7 @@ request_like qs rs k r same g = go (slice_get qs k) refl
   where
     go : (o : Option Request) → slice_get qs k ≡ o → option_map (λ (request : Request). request.changes) (slice_get qs k) ≡ Some r.changes → (q : Request) × (slice_get qs k ≡ Some q) × (r.changes ≡ q.changes)
     go None e f = (let h = sym (ap (option_map (λ (request : Request). request.changes)) e) ∙ f in absurd (cc))
-    go (Some q) e f = (q, e, sym (same_some q.changes r.changes (sym (ap (option_map (λ (request : Request). request.changes)) e) ∙ f)))
+    go (Some q) e f = (q, e, sym (same_Some q.changes r.changes (sym (ap (option_map (λ (request : Request). request.changes)) e) ∙ f)))
 
 any_like : (test : List Change → Bool) (qs rs : List Request) → changes_of rs ≡ changes_of qs → list_any (λ (q : Request). test q.changes) rs ≡ list_any (λ (q : Request). test q.changes) qs
 any_like test [] [] same = refl
@@ -86,8 +77,8 @@ pub with_next : (bs : List ℕ) (k a : ℕ) (qs : List Request) (q : Request) �
 with_next [] k a qs q g h = absurd (cc)
 with_next (b ∷ bs) zero a [] q g h = absurd (cc)
 with_next (b ∷ bs) zero a (r ∷ qs) q g h =
-    let e : a ≡ b = sym (same_some b a g) in
-    let f : q ≡ r = sym (same_some r q h) in
+    let e : a ≡ b = sym (same_Some b a g) in
+    let f : q ≡ r = sym (same_Some r q h) in
     λ i. record (f i) { after = e i } ∷ qs
 with_next (b ∷ bs) (suc k) a [] q g h = absurd (cc)
 with_next (b ∷ bs) (suc k) a (r ∷ qs) q g h = ap (λ l. record r { after = b } ∷ l) (with_next bs k a qs q g h)

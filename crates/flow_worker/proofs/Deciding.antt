@@ -15,6 +15,7 @@ use Rattle.marker_align.specs.declared.decision.Due.{Due}
 use Rattle.marker_align.specs.declared.held.Hand.{Hand}
 use Rattle.marker_align.specs.declared.held.Hand.TheVariants.{Empty, Holds}
 use Rattle.tuple_trace.specs.declared.tuple.Item.TheVariants.{Carry, Mark, Last}
+use Rattle.versions.proofs.BookLemmas.{neither}
 use Rattle.flow_worker.specs.Endpoints.{LaneInIs}
 use Rattle.flow_worker.specs.Pairs.{EachOne}
 use Rattle.flow_worker.specs.Steps.{HasTuple}
@@ -103,19 +104,15 @@ hold_marker mask r c i (a ∷ more) e =
 
 -- ---- tuples in hand
 
-or_false : (x y : Bool) → (x || y) ≡ false → (x ≡ false) × (y ≡ false)
-or_false true y e = absurd (cc)
-or_false false y e = (refl, e)
-
 -- no hand is issued under the due of a head where the decision isn't to turn
 pub not_issued : (hands : List Hand) (due : Due) (posted : Bool) → may_turn hands due posted ≡ false → due.head ≡ true → (posted ≡ false) × (list_any (is_issued due.request) hands ≡ false)
 not_issued hands due posted e h =
-    or_false posted (list_any (is_issued due.request) hands) (subst (λ b. cond b (posted || list_any (is_issued due.request) hands) (is_aligned due hands) ≡ false) h e)
+    neither posted (list_any (is_issued due.request) hands) (subst (λ b. cond b (posted || list_any (is_issued due.request) hands) (is_aligned due hands) ≡ false) h e)
 
 pub none_at : (p : Hand → Bool) (ins : List LaneInIs) (k : ℕ) (a : LaneInIs) → list_any p (all_hands ins) ≡ false → slice_get ins k ≡ Some a → p a.hand ≡ false
 none_at p [] k a e g = absurd (cc)
-none_at p (b ∷ more) zero a e g = let q : b ≡ a = cc in subst (λ (x : LaneInIs). p x.hand ≡ false) q (or_false (p b.hand) (list_any p (all_hands more)) e).0
-none_at p (b ∷ more) (suc k) a e g = none_at p more k a (or_false (p b.hand) (list_any p (all_hands more)) e).1 g
+none_at p (b ∷ more) zero a e g = let q : b ≡ a = cc in subst (λ (x : LaneInIs). p x.hand ≡ false) q (neither (p b.hand) (list_any p (all_hands more)) e).0
+none_at p (b ∷ more) (suc k) a e g = none_at p more k a (neither (p b.hand) (list_any p (all_hands more)) e).1 g
 
 get_drop : (hands : List Hand) (start k : ℕ) (d : Hand) → get_or (drop start hands) k d ≡ get_or hands (start + k) d
 get_drop hands start k d = grind (arith, common_steps)

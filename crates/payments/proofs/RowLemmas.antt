@@ -41,7 +41,7 @@ position-slice_get p (y ∷ ys) i is =
       | inr past ↦ absurd (omega (arith, past.0, inside.0))
     ]
 
-both-left : (a b : Bool) → (a && b) ≡ true → a ≡ true
+pub both-left : (a b : Bool) → (a && b) ≡ true → a ≡ true
 both-left true b is = refl
 both-left false b is = is
 

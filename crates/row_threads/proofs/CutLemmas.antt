@@ -1,5 +1,5 @@
 -- A text that is cut into shares, and what is read of its first.
-use Rattle.std.proofs.Common.{◌≡◌, ◌∙◌, ◌++◌, ℕ, List, [], ◌∷◌, All, Result, refl, sym, ap, map}
+use Rattle.std.proofs.Common.{◌≡◌, ◌∙◌, ◌++◌, ℕ, List, [], ◌∷◌, All, Result, sym, ap, map}
 use Rattle.std.proofs.Common.{append_assoc, subst}
 use Rattle.std.proofs.lemmas.List.{append-nil, map-append}
 use Rattle.std.proofs.lemmas.List.Elements.{All-append, All-cons, All-nil}
@@ -7,23 +7,19 @@ use Rattle.std.proofs.lemmas.Result.{IfOk-weaker}
 use Rattle.std.specs.Borrow.{Bor}
 use Rattle.std.specs.List.{concat}
 use Rattle.std.specs.Prelude.{IfOk}
-use Rattle.csv.specs.Machine.{next_record}
-use Rattle.csv.specs.Reading.{default_config, records, records_from, strip_bom}
+use Rattle.csv.specs.Reading.{default_config}
 use Rattle.input_pieces.specs.Cut.{IsCut}
 use Rattle.jobs.specs.JobView.{JobView}
 use Rattle.stream_rows.specs.Rows.{and_then, no_rows, rows_under_header, stream_rows}
 use Rattle.stream_rows.specs.declared.sound.SoundRows.{SoundRows}
-
-no_records : records default_config (strip_bom []) ≡ []
-unfolding records_from next_record strip_bom
-no_records = refl
+use Rattle.stream_rows.proofs.ReadLemmas.{records-nil}
 
 -- the rows of a text, read behind nothing
 pub first_read : {E : Type 0} (job : JobView) (text : List ℕ) (read : Result SoundRows E)
     → IfOk read (λ sound. stream_rows job 0 text ≡ and_then (stream_rows job 0 []).rows sound)
     → IfOk read (λ sound. sound ≡ stream_rows job 0 text)
 first_read job text read is =
-    let none : stream_rows job 0 [] ≡ no_rows = ap (rows_under_header job 0) no_records in
+    let none : stream_rows job 0 [] ≡ no_rows = ap (rows_under_header job 0) records-nil in
     IfOk-weaker read _ _
     (λ sound same. sym (same ∙ ap (λ (r : SoundRows). and_then r.rows sound) none)) is
 

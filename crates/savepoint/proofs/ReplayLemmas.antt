@@ -28,7 +28,7 @@ use Rattle.flow_model.proofs.ElementLemmas.{IsIn}
 use Rattle.flow_model.proofs.PlannedLemmas.{HasCovers}
 use Rattle.flow_model.proofs.RunLemmas.{in_fed_puts}
 use Rattle.flow_model.proofs.SendingLemmas.{puts_come}
-use Rattle.flow_model.proofs.TableLemmas.{unchanged}
+use Rattle.flow_model.proofs.TableLemmas.{unchanged, with_func}
 use Rattle.savepoint.specs.Parts.{endless, first_of}
 use Rattle.savepoint.proofs.CutLemmas.{plan_first, request_first}
 use Rattle.savepoint.proofs.EndlessLemmas.{NamesUpTo}
@@ -172,10 +172,6 @@ func_by setup node f (r ∷ more) = func_by setup node (func_with (change_by set
 abbrev pub last_by : ℕ → List ℕ → ℕ
 last_by last [] = last
 last_by last (r ∷ more) = last_by r more
-
-with_func : (o : Option Change) (view : StateView) → (after_change o view).func ≡ func_with o view.func
-with_func None view = refl
-with_func (Some change) view = refl
 
 pub after_func : (setup : SetupView) (who : Worker) (view : StateView) (journal : List Entry) → (after_all setup who view journal).func ≡ func_by setup who.node view.func (turned journal)
 after_func setup who view [] = refl

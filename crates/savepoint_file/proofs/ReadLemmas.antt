@@ -1,9 +1,10 @@
 -- What a text tells is what is read of it step by step.
-use Rattle.std.proofs.Common.{◌≡◌, ◌≢◌, ◌∙◌, ◌<◌, ◌≤◌, ◌+◌, ◌++◌, ℕ, zero, suc, Bool, true, false, List, [], ◌∷◌, Option, Some, None, Result, Ok, Err, refl, sym, subst, ap, arith, add-one, append_assoc, drop, get_or, length, map, nat_lt, option_map, take, if◌then◌else◌}
-use Rattle.std.proofs.lemmas.Bool.{eq-eqb, le-ltb, lt-ltb, ne_eqb}
+use Rattle.std.proofs.Common.{◌≡◌, ◌≢◌, ◌∙◌, ◌<◌, ◌≤◌, ◌+◌, ◌++◌, ℕ, zero, suc, Bool, true, false, List, [], ◌∷◌, Option, Some, None, Result, Ok, Err, refl, sym, subst, ap, arith, add-one, append_assoc, drop, get_or, length, map, option_map, take, if◌then◌else◌}
+use Rattle.std.proofs.lemmas.Bool.{eq-eqb, lt-ltb, ne_eqb}
 use Rattle.std.proofs.lemmas.List.{append-nil, drop_more}
 use Rattle.jobs.specs.JobView.{JobView}
 use Rattle.keyed_state.specs.Counts.{Counts}
+use Rattle.versions.proofs.WaitingLemmas.{not_below}
 use Rattle.flow_model.specs.Begin.{Begin}
 use Rattle.flow_model.specs.SetupView.{SetupView}
 use Rattle.flow_model.specs.Requests.{afters}
@@ -175,9 +176,6 @@ named-read job first later counts made = let r = read-spelled job first later co
 
 -- ---- the beginning
 
-not_less : (rows row : ℕ) → row ≤ rows → nat_lt rows row ≡ false
-not_less rows row le = le-ltb rows row le
-
 pub at-past : (setup : SetupView) (rows row turned : ℕ) (spelled : List Spelled) → rows < row → begin_at setup rows (row, turned) spelled ≡ Err (fault.Past row)
 at-past setup rows row turned spelled less = rw (lt-ltb rows row less) refl
 
@@ -186,11 +184,11 @@ issued_in setup rows row = issued_up_to row rows (afters setup.requests)
 
 pub at-count : (setup : SetupView) (rows row turned : ℕ) (spelled : List Spelled) → row ≤ rows → turned ≢ issued_in setup rows row
     → begin_at setup rows (row, turned) spelled ≡ Err (fault.Count (issued_in setup rows row))
-at-count setup rows row turned spelled le other = rw (not_less rows row le, ne_eqb turned (issued_in setup rows row) other) refl
+at-count setup rows row turned spelled le other = rw (not_below rows row le, ne_eqb turned (issued_in setup rows row) other) refl
 
 pub at-order : (setup : SetupView) (rows row turned : ℕ) (spelled : List Spelled) → row ≤ rows → turned ≡ issued_in setup rows row
     → begin_at setup rows (row, turned) spelled ≡ begin_with setup.job row turned (placed_from setup.job 1 None spelled)
-at-order setup rows row turned spelled le same = rw (not_less rows row le, eq-eqb turned (issued_in setup rows row) same) refl
+at-order setup rows row turned spelled le same = rw (not_below rows row le, eq-eqb turned (issued_in setup rows row) same) refl
 
 with_order : (job : JobView) (row turned first : ℕ) (counts : List (Option Placed)) (spelled : List Spelled) (made : Result (List Placed) SaveFault)
     → counts ≡ map (placed_of job) spelled → placed_in first None counts ≡ made → begin_with job row turned (placed_from job first None spelled) ≡ begin_with job row turned made

@@ -13,6 +13,7 @@ use Rattle.flow_model.specs.Whole.{after_turn, any_after, is_new, is_turn, journ
 use Rattle.serial_order.specs.Places.{meets_new, rows_numbered, row_met}
 use Rattle.serial_order.proofs.NumberedLemmas.{none_pass, numbered-same, numbered-split}
 use Rattle.flow_model.proofs.TopologyLemmas.{drop-at}
+use Rattle.flow_model.proofs.GatheredLemmas.{or_false}
 
 -- ---- a journal
 
@@ -39,10 +40,6 @@ rest_not_turned request e more = go (is_turn request e)
     go false = refl
 
 -- the one row that an entry meets
-or_false : (b : Bool) → (b || false) ≡ b
-or_false true = refl
-or_false false = refl
-
 pub met-one : (e : Entry) (row other : ℕ) → row_met e ≡ Some row → meets_row other (e ∷ []) ≡ (row == other)
 met-one (entry.Met lane tuple) row other e = let same : tuple.row ≡ row = same_Some tuple.row row e in or_false (tuple.row == other) ∙ ap (λ n. n == other) same
 met-one (entry.Marked lane request) row other e = absurd (cc)

@@ -16,6 +16,8 @@ use Rattle.versions.specs.declared.in_order.Judged.{Judged}
 use Rattle.versions.specs.declared.in_order.Refused.{Refused}
 use Rattle.versions.specs.declared.request.Change.{Change}
 use Rattle.versions.specs.declared.request.Request.{Request}
+use Rattle.versions.proofs.JudgedLemmas.{judged_from-nil}
+use Rattle.versions.proofs.WaitingLemmas.{head_same, tail_same}
 use Rattle.flow_model.specs.Requests.{afters}
 use Rattle.flow_model.specs.Waiting.{with_afters}
 use Rattle.stream_law.specs.Later.{IsJudgedPrefix}
@@ -75,15 +77,10 @@ pub judged_counts : (splits : Option ℕ) (job : JobView) (xs : List Request)
     ≡ length xs
 judged_counts splits job xs = counts_from splits job (first_book job.nodes) 0 1 xs
 
-none_from : (splits : Option ℕ) (job : JobView) (book : List Current) (last place : ℕ)
-    → judged_from splits job book last place [] ≡ record { accepted = []; refused = [] }
-unfolding judged_from
-none_from splits job book last place = refl
-
 -- no requests are judged: none is accepted, and none refused
 pub judged_none : (splits : Option ℕ) (job : JobView) → judged_within splits job []
     ≡ record { accepted = []; refused = [] }
-judged_none splits job = none_from splits job (first_book job.nodes) 0 1
+judged_none splits job = judged_from-nil splits job (first_book job.nodes) 0 1
 
 -- ---- those that a stream has taken
 
@@ -103,12 +100,6 @@ asked_counts job taken pending all is =
       length-append is.earlier pending,
       taken_counts job taken pending all is,
     )
-
-head_same : (x y : List Change) (xs ys : List (List Change)) → x ∷ xs ≡ y ∷ ys → x ≡ y
-head_same x y xs ys e = cc
-
-tail_same : (x y : List Change) (xs ys : List (List Change)) → x ∷ xs ≡ y ∷ ys → xs ≡ ys
-tail_same x y xs ys e = cc
 
 -- requests with the changes of others, which wait for their rows, are the others
 waiting_back : (xs ys : List Request) → changes_of xs ≡ changes_of ys → with_afters (afters ys) xs

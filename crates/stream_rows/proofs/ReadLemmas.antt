@@ -105,7 +105,7 @@ HaveShortTexts-rows_at job has fed records =
 
 -- ---- text
 
-records-nil : records default_config (strip_bom []) ≡ []
+pub records-nil : records default_config (strip_bom []) ≡ []
 unfolding records_from next_record strip_bom
 records-nil = refl
 

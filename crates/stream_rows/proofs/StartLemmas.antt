@@ -18,6 +18,7 @@ use Rattle.csv.specs.declared.parser.State.TheVariants as st
 use Rattle.csv.specs.declared.parser.Terminator.TheVariants as term
 use Rattle.input_pieces.specs.Cut.{state_after}
 use Rattle.payments.specs.Reading.{first_cell}
+use Rattle.payments.proofs.RowLemmas.{both-left}
 
 -- ---- a record that has begun is read
 
@@ -226,10 +227,6 @@ plain_in_field c is = go (c == 44) (ends_with term.CRLF c) is
     go true b e = absurd (cc e)
     go false true e = absurd (cc e)
     go false false e = refl
-
-both-left : (a b : Bool) → (a && b) ≡ true → a ≡ true
-both-left true b e = refl
-both-left false b e = e
 
 both-right : (a b : Bool) → (a && b) ≡ true → b ≡ true
 both-right true b e = e

@@ -16,6 +16,7 @@ use Rattle.versions.specs.Waiting.{changes_of}
 use Rattle.versions.specs.declared.in_order.Refused.{Refused}
 use Rattle.versions.specs.declared.request.Change.{Change}
 use Rattle.versions.specs.declared.request.Request.{Request}
+use Rattle.versions.proofs.YoungLemmas.{not_above}
 use Rattle.flow_model.specs.Planned.{is_made_split, makes_split}
 use Rattle.flow_model.specs.Requests.{afters}
 use Rattle.stream_law.specs.Later.{IsJudgedPrefix}
@@ -23,7 +24,7 @@ use Rattle.stream_step.specs.Parts.{IsBetweenRows, due_in}
 use Rattle.stream_step.specs.Pending.{AreAsked, SplitWithin, due_by, is_due_by, is_held, issued_by}
 use Rattle.stream_step.specs.Pending.{kept_by, left_by, lifted}
 use Rattle.stream_step.specs.declared.stream.Stream.{Stream}
-use Rattle.savepoint.proofs.OrderLemmas.{le_of, lt_of}
+use Rattle.savepoint.proofs.OrderLemmas.{le_of}
 use Rattle.savepoint.proofs.CutLemmas.{or_weaker}
 
 -- what the laws of judging say
@@ -196,7 +197,7 @@ due_then_left fed last low (x ∷ xs) le o =
         ++ (if not b then x ∷ left_by last xs else left_by last xs) ≡ x ∷ xs
     go true e f = ap (λ (l : List Request). x ∷ l) f
     go false e f =
-        let k : last < x.after = lt_of x.after last e in
+        let k : last < x.after = not_above x.after last e in
         let none =
         none_due fed last (max x.after fed) xs
         (omega (arith, le-max_left x.after fed)) le o.1 in
@@ -214,7 +215,7 @@ left_lifted fed last (x ∷ xs) le = go (is_due_by last x) refl (left_lifted fed
         ≡ map (lifted fed) (if not b then x ∷ left_by last xs else left_by last xs)
     go true e f = f
     go false e f =
-        let k : last < x.after = lt_of x.after last e in
+        let k : last < x.after = not_above x.after last e in
         let a : last ≤ x.after = omega arith in
         let b : fed ≤ x.after = omega arith in
         let same : max x.after last ≡ max x.after fed = max-eq_left a ∙ sym (max-eq_left b) in

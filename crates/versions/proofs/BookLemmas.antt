@@ -19,7 +19,7 @@ twice_push : (cs : List Change) (c : Change) (node : ℕ) → is_named (cs ++ c 
 twice_push [] c node = elim (cases_Bool (c.node == node)) [ inl e ↦ rw e refl | inr e ↦ rw e refl ]
 twice_push (d ∷ cs) c node = elim (cases_Bool (d.node == node)) [ inl e ↦ rw e refl | inr e ↦ rw e (twice_push cs c node) ]
 
-neither : (a b : Bool) → (a || b) ≡ false → (a ≡ false) × (b ≡ false)
+pub neither : (a b : Bool) → (a || b) ≡ false → (a ≡ false) × (b ≡ false)
 neither true b e = absurd cc
 neither false b e = (refl, e)
 

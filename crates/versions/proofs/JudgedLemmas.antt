@@ -29,7 +29,7 @@ judged_from-refused : (splits : Option ℕ) (job : JobView) (book : List Current
 unfolding judged_from
 judged_from-refused splits job book last place r rest q wrong = rw wrong refl
 
-judged_from-nil : (splits : Option ℕ) (job : JobView) (book : List Current) (last place : ℕ) → judged_from splits job book last place [] ≡ record { accepted = []; refused = [] }
+pub judged_from-nil : (splits : Option ℕ) (job : JobView) (book : List Current) (last place : ℕ) → judged_from splits job book last place [] ≡ record { accepted = []; refused = [] }
 unfolding judged_from
 judged_from-nil splits job book last place = refl
 

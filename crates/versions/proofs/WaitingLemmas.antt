@@ -36,7 +36,7 @@ change_faults book job changes =
     ∷ named fault.IllTyped (first_with code.IllTyped book job [] changes) ∷ named fault.KindOrKey (first_with code.KindOrKey book job [] changes)
     ∷ named fault.BadCarry (first_with code.BadCarry book job [] changes) ∷ []
 
-not_below : (a b : ℕ) → b ≤ a → nat_lt a b ≡ false
+pub not_below : (a b : ℕ) → b ≤ a → nat_lt a b ≡ false
 not_below a b le = grind (arith, nat_tests)
 
 whole_free : (q r : Request) (last later : ℕ) → r.changes ≡ q.changes → later ≤ r.after → whole_fault q last ≡ None → whole_fault r later ≡ None
@@ -53,10 +53,10 @@ fault_free book job q r last later same le free =
     ap (λ (cs : List Change). all_or (change_faults book job cs) (whole_fault r later)) same
     ∙ all_swap (change_faults book job q.changes) (whole_fault q last) (whole_fault r later) free (whole_free q r last later same le)
 
-head_same : (x y : List Change) (xs ys : List (List Change)) → x ∷ xs ≡ y ∷ ys → x ≡ y
+pub head_same : (x y : List Change) (xs ys : List (List Change)) → x ∷ xs ≡ y ∷ ys → x ≡ y
 head_same x y xs ys e = cc
 
-tail_same : (x y : List Change) (xs ys : List (List Change)) → x ∷ xs ≡ y ∷ ys → xs ≡ ys
+pub tail_same : (x y : List Change) (xs ys : List (List Change)) → x ∷ xs ≡ y ∷ ys → xs ≡ ys
 tail_same x y xs ys e = cc
 
 pub accepted_like : (job : JobView) (book : List Current) (last later place : ℕ) (qs rs : List Request) → changes_of rs ≡ changes_of qs → (judged_from None job book last place qs).refused ≡ [] → AreInOrder later rs

@@ -74,7 +74,7 @@ none_each k book job before (d ∷ rest) none (suc i) c at =
           subst (λ (x : List Change). has_fault k book job x c ≡ false) (append_assoc before (d ∷ []) (take i rest)) later
     ]
 
-not_above : (a b : ℕ) → nat_le a b ≡ false → b < a
+pub not_above : (a b : ℕ) → nat_le a b ≡ false → b < a
 not_above a b e = grind (arith, nat_tests)
 
 -- a request without a fault can be accepted
