@@ -1,6 +1,5 @@
 -- Which entry descends from which in a run from a beginning on: chains of entries, and how two of them part.
-use Rattle.std.proofs.Common.{◌≡◌, ◌∙◌, ◌≢◌, ◌<◌, ◌+◌, ◌++◌, ℕ, List, [], ◌∷◌, ◌⊎◌, inl, inr, refl, sym, subst, ap, arith, length, take, flat_map, Some, slice_get, append_assoc, append-nil}
-use Rattle.std.proofs.lemmas.Bool.{cases_eq}
+use Rattle.std.proofs.Common.{◌≡◌, ◌∙◌, ◌≢◌, ◌<◌, ◌+◌, ◌++◌, ℕ, List, [], ◌∷◌, ◌⊎◌, inl, inr, refl, sym, subst, ap, length, take, flat_map, Some, slice_get, append-nil}
 use Rattle.flow_dag.specs.Edges.{HasEdge}
 use Rattle.operators.specs.Laws.{IsMadeOf}
 use Rattle.operators.specs.declared.output.Output.{Output}
@@ -23,18 +22,8 @@ use Rattle.flow_model.proofs.SendingLemmas.{ComesOf, made, puts_come}
 use Rattle.flow_model.proofs.WorkerLemmas.{journal_of, worker_no}
 use Rattle.flow_model.proofs.PlaceLemmas.{flat_map_same, map_place}
 use Rattle.flow_model.proofs.KindLemmas.{birth_grows}
-use Rattle.flow_model.proofs.LineageLemmas.{Address, Meets, Passed, came_in_some, delivered_before, meets_one, put_before, same_address}
+use Rattle.flow_model.proofs.LineageLemmas.{Address, Meets, Passed, came_in_some, decide_address, delivered_before, meets_one, passed_then, put_before, same_address}
 use Rattle.flow_begin.proofs.RunLemmas.{begun_from}
-
-decide_address : (a b : Address) → (a ≡ b) ⊎ (a ≢ b)
-decide_address a b =
-    elim (cases_eq a.worker b.worker) [
-      | inl p ↦ elim (cases_eq a.entry b.entry) [
-        | inl q ↦ inl (same_address a b p q)
-        | inr n ↦ inr (λ s. let k : a.entry ≡ b.entry = ap (λ (x : Address). x.entry) s in absurd (omega arith))
-      ]
-      | inr n ↦ inr (λ s. let k : a.worker ≡ b.worker = ap (λ (x : Address). x.worker) s in absurd (omega arith))
-    ]
 
 -- the moments of a worker of a run
 abbrev pub story_of : Begin → Ran → ℕ → List Moment
@@ -172,17 +161,6 @@ passed_child begin ran p c k =
       trace = ap (λ (t : Tuple). t.trace) b.is ∙ b.made_of.trace;
       pieces = g.0;
       birth = ap (λ (t : Tuple). t.birth) b.is ∙ (b.made_of.birth ∙ g.1);
-    }
-
-passed_then : (t u v : Tuple) → Passed t u → Passed u v → Passed t v
-passed_then t u v a b =
-    record {
-      row = b.row ∙ a.row;
-      issued = b.issued ∙ a.issued;
-      later = a.later ++ b.later;
-      trace = b.trace ∙ (ap (λ (xs : List Visit). xs ++ b.later) a.trace ∙ append_assoc t.trace a.later b.later);
-      pieces = a.pieces ++ b.pieces;
-      birth = b.birth ∙ (ap (λ (xs : List ℕ). xs ++ b.pieces) a.birth ∙ append_assoc t.birth a.pieces b.pieces);
     }
 
 pub passed : (begin : Begin) (ran : Ran) (p c : Address) (chain : List Address) (t u : Tuple) → IsChain begin ran p chain c → Meets ran p t → Meets ran c u → Passed t u

@@ -6,19 +6,17 @@ use Rattle.sink_journal.specs.Alerts.{met}
 use Rattle.sink_journal.specs.declared.journal.Entry.{Entry}
 use Rattle.sink_journal.specs.declared.journal.Entry.TheVariants as entry
 use Rattle.tuple_trace.specs.declared.row.Row.{Row}
-use Rattle.tuple_trace.specs.declared.tuple.Tuple.{Tuple}
 use Rattle.flow_model.specs.Begin.{Begin}
 use Rattle.flow_model.specs.SetupView.{Worker}
 use Rattle.flow_model.specs.Run.{Ran}
-use Rattle.flow_model.specs.Whole.{IsMetOnce, identities, journals_at, met_tuples}
+use Rattle.flow_model.specs.Whole.{IsMetOnce, identities, journals_at}
 use Rattle.flow_model.specs.Workers.{workers_at_node}
 use Rattle.flow_model.proofs.ElementLemmas.{AreDistinct, IsIn, distinct_append, distinct_by_place, distinct_pairs, in_filter_map, in_flat_map, place_of_in}
 use Rattle.flow_model.proofs.WorkerLemmas.{Stands, journal_is, journal_of, worker_no, workers_at_node_distinct, in_workers_at_node, same_who, stands_at}
-use Rattle.flow_model.proofs.PlaceLemmas.{IsKeptFrom, filter_map_place, map_place}
 use Rattle.flow_model.proofs.StoryLemmas.{story_at}
 use Rattle.flow_model.proofs.KindLemmas.{ArePieces, pieces_stay_apart}
 use Rattle.flow_model.proofs.LineageLemmas.{Address, Passed}
-use Rattle.flow_model.proofs.TurnLemmas.{met_is}
+use Rattle.flow_model.proofs.OnceLemmas.{IsNamed, named}
 use Rattle.flow_begin.proofs.LineageLemmas.{Child, IsChain, Parted, ShareRoot, parted, passed}
 use Rattle.flow_begin.proofs.RunLemmas.{RunningFrom, begun_from}
 use Rattle.flow_begin.proofs.WholeLemmas.{HasParted, Meeting, has_parted, share_root_of_row}
@@ -76,22 +74,6 @@ module _ (begin : Begin) (rows : List Row) (ran : Ran) (g : RunningFrom begin ro
     one_entry = by_root (share_root_of_row begin rows ran g row c d m n)
 
 -- ---- the list of identities
-
--- the entry that has this place among the identities
-record IsNamed (journal : List Entry) (q : ℕ) (x : ℕ × List ℕ) : Type 0 where
-  i : ℕ
-  lane : ℕ
-  tuple : Tuple
-  met_there : slice_get journal i ≡ Some (entry.Met lane tuple)
-  is : x ≡ (tuple.row, tuple.birth)
-  place : q ≡ length (filter_map met (take i journal))
-
-named : (journal : List Entry) (q : ℕ) (x : ℕ × List ℕ) → slice_get (identities journal) q ≡ Some x → IsNamed journal q x
-named journal q x h =
-    let p = map_place {B = ℕ × List ℕ} (λ (tuple : Tuple). (tuple.row, tuple.birth)) (met_tuples journal) q x h in
-    let k : IsKeptFrom met journal q p.0 = filter_map_place met journal q p.0 p.1 in
-    let l = met_is k.x p.0 k.is in
-    record { i = k.i; lane = l.0; tuple = p.0; met_there = k.there ∙ ap Some l.1; is = p.2; place = k.place }
 
 -- two places of two workers of a node with one identity are one place of one worker
 same_identity : (begin : Begin) (rows : List Row) (ran : Ran) (g : RunningFrom begin rows ran) (node w v i j : ℕ) (x : ℕ × List ℕ) → Stands ran.setup node w → Stands ran.setup node v

@@ -1,24 +1,20 @@
 -- Every entry of a run from a beginning on that meets a tuple descends from the entry that first met its row, and that one is alone.
-use Rattle.std.proofs.Common.{◌≡◌, ◌∙◌, ◌<◌, ◌+◌, ◌++◌, ℕ, zero, suc, List, [], ◌∷◌, ◌⊎◌, inl, inr, refl, sym, subst, ap, arith, length, flat_map, take, Some, None, Option, slice_get}
+use Rattle.std.proofs.Common.{◌≡◌, ◌∙◌, ◌<◌, ◌+◌, ◌++◌, ℕ, zero, suc, List, [], ◌∷◌, ◌⊎◌, inl, inr, refl, sym, subst, ap, arith, length, flat_map, take, Some, None, slice_get}
 use Rattle.flow_dag.specs.Edges.{HasEdge}
 use Rattle.flow_dag.proofs.EdgeLemmas.{HasEdge-at}
-use Rattle.jobs.specs.JobView.{JobView}
 use Rattle.sink_journal.specs.declared.journal.Entry.TheVariants as entry
-use Rattle.sink_journal.specs.declared.journal.Feed.{Feed}
-use Rattle.sink_journal.specs.declared.journal.Feed.TheVariants as feed
-use Rattle.tuple_trace.specs.Rows.{AreRows}
 use Rattle.tuple_trace.specs.declared.row.Row.{Row}
 use Rattle.tuple_trace.specs.declared.tuple.Item.{Item}
 use Rattle.tuple_trace.specs.declared.tuple.Item.TheVariants as item
 use Rattle.tuple_trace.specs.declared.tuple.Tuple.{Tuple}
 use Rattle.flow_model.specs.Begin.{Begin}
-use Rattle.flow_model.specs.Feeding.{fed, fed_put, fed_puts, fed_tuple, row_numbered}
-use Rattle.flow_model.specs.Lanes.{lane_of, lanes}
+use Rattle.flow_model.specs.Feeding.{fed, fed_puts}
+use Rattle.flow_model.specs.Lanes.{lanes}
 use Rattle.flow_model.specs.declared.topology.Lane.{Lane}
 use Rattle.flow_model.specs.Replay.{Put, came_in, item_on, shown}
 use Rattle.flow_model.specs.Requests.{afters}
 use Rattle.flow_model.specs.Run.{Ran}
-use Rattle.flow_model.proofs.ElementLemmas.{IsIn, in_of_place}
+use Rattle.flow_model.proofs.ElementLemmas.{in_of_place}
 use Rattle.flow_model.proofs.LaneLemmas.{LaneIn, lane_in, same_number}
 use Rattle.flow_model.proofs.MarkerLemmas.{met_on_lane}
 use Rattle.flow_model.proofs.SendingLemmas.{on_lane}
@@ -26,68 +22,12 @@ use Rattle.flow_model.proofs.StoryLemmas.{put_then, sent-story}
 use Rattle.flow_model.proofs.WorkerLemmas.{Stands, get_append, journal_of, worker_is, worker_no}
 use Rattle.flow_model.proofs.PlaceLemmas.{IsFrom, IsKeptFrom, filter_map_place, flat_map_place, flat_map_same}
 use Rattle.flow_model.proofs.LineageLemmas.{Address, Meets, came_in_some, delivered_before, put_before, same_address}
-use Rattle.flow_model.proofs.RootLemmas.{FeedsRise, feed_rises, met_there}
-use Rattle.flow_model.proofs.RunLemmas.{HasWorker, row_is}
+use Rattle.flow_model.proofs.RootLemmas.{FeedsRise, feed_rises, met_there, once_fed}
+use Rattle.flow_model.proofs.RunLemmas.{HasWorker}
 use Rattle.flow_begin.proofs.LineageLemmas.{Born, Child, IsChain, born, chain_push, puts_of, sent_before, story_of}
 use Rattle.flow_begin.proofs.RunLemmas.{RunningFrom, begun_from, duties_from, execution, fed_there, sender_of, sent_there, start_from}
 
 -- ---- the feeder puts each row once
-
--- every put of a rising feed carries a tuple of a row above the bound
-puts_above : (job : JobView) (rows : List Row) (k issued : ℕ) (feeds : List Feed) (p : Put) (t : Tuple) → AreRows rows → FeedsRise k feeds
-    → IsIn p (fed_puts job rows issued feeds) → p.item ≡ item.Carry t → k < t.row
-puts_above job rows k issued [] p t are f h e = absurd h
-puts_above job rows k issued (feed.Fed n ∷ more) p t are f h e =
-    go (row_numbered rows n) refl h (λ i. let lt : n < t.row = puts_above job rows n issued more p t are f.1 i e in let h = f.0 in omega arith)
-  where
-    go : (o : Option Row) → row_numbered rows n ≡ o → IsIn p (fed_put job issued o ++ fed_puts job rows issued more) → (IsIn p (fed_puts job rows issued more) → k < t.row) → k < t.row
-    go None g i later = later i
-    go (Some row) g (inl q) later =
-        let c : item.Carry (fed_tuple issued row) ≡ item.Carry t = sym (ap (λ (p : Put). p.item) q) ∙ e in
-        let same : fed_tuple issued row ≡ t = cc in
-        let number : t.row ≡ n = sym (ap (λ (t : Tuple). t.row) same) ∙ (row_is rows n row are g).numbered in
-        let h = f.0 in
-        omega arith
-    go (Some row) g (inr i) later = later i
-puts_above job rows k issued (feed.Issued r ∷ more) p t are f h e = puts_above job rows k (issued + 1) more p t are f h e
-puts_above job rows k issued (feed.Stopped ∷ more) p t are f h e = puts_above job rows k issued more p t are f h e
-
--- no two of these puts carry tuples of one row
-abbrev HasRowsOnce : List Put → Type 0
-HasRowsOnce ps =
-    (i j : ℕ) (p q : Put) (t u : Tuple) → slice_get ps i ≡ Some p → slice_get ps j ≡ Some q → p.item ≡ item.Carry t → q.item ≡ item.Carry u → t.row ≡ u.row → i ≡ j
-
-once_behind : (p : Put) (ps : List Put) (s : Tuple) → p.item ≡ item.Carry s → ((q : Put) (t : Tuple) → IsIn q ps → q.item ≡ item.Carry t → s.row < t.row)
-    → HasRowsOnce ps → HasRowsOnce (p ∷ ps)
-once_behind p ps s e above once zero zero a b t u g h c d same = refl
-once_behind p ps s e above once zero (suc j) a b t u g h c d same =
-    let lt : s.row < u.row = above b u (in_of_place b ps j h) d in
-    let z : p ≡ a = cc in
-    let f : item.Carry s ≡ item.Carry t = sym e ∙ (ap (λ (p : Put). p.item) z ∙ c) in
-    let st : s ≡ t = cc in
-    let r : s.row ≡ t.row = ap (λ (t : Tuple). t.row) st in
-    absurd (omega arith)
-once_behind p ps s e above once (suc i) zero a b t u g h c d same =
-    let lt : s.row < t.row = above a t (in_of_place a ps i g) c in
-    let z : p ≡ b = cc in
-    let f : item.Carry s ≡ item.Carry u = sym e ∙ (ap (λ (p : Put). p.item) z ∙ d) in
-    let su : s ≡ u = cc in
-    let r : s.row ≡ u.row = ap (λ (t : Tuple). t.row) su in
-    absurd (omega arith)
-once_behind p ps s e above once (suc i) (suc j) a b t u g h c d same = ap suc (once i j a b t u g h c d same)
-
-once_fed : (job : JobView) (rows : List Row) (k issued : ℕ) (feeds : List Feed) → AreRows rows → FeedsRise k feeds → HasRowsOnce (fed_puts job rows issued feeds)
-once_fed job rows k issued [] are f = λ i j p q t u g h c d same. absurd (cc)
-once_fed job rows k issued (feed.Fed n ∷ more) are f = go (row_numbered rows n) refl (once_fed job rows n issued more are f.1)
-  where
-    go : (o : Option Row) → row_numbered rows n ≡ o → HasRowsOnce (fed_puts job rows issued more) → HasRowsOnce (fed_put job issued o ++ fed_puts job rows issued more)
-    go None g once = once
-    go (Some row) g once =
-        once_behind (record { lane = lane_of job None row.source 0 row.tuple; item = item.Carry (fed_tuple issued row) }) (fed_puts job rows issued more) (fed_tuple issued row) refl
-        (λ q t i e. let lt : n < t.row = puts_above job rows n issued more q t are f.1 i e in let number : row.tuple.row ≡ n = (row_is rows n row are g).numbered in omega arith)
-        once
-once_fed job rows k issued (feed.Issued r ∷ more) are f = once_fed job rows k (issued + 1) more are f
-once_fed job rows k issued (feed.Stopped ∷ more) are f = once_fed job rows k issued more are f
 
 -- ---- roots
 

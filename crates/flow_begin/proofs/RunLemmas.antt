@@ -8,35 +8,33 @@ use Rattle.jobs.specs.Job.{job_view}
 use Rattle.jobs.specs.Nodes.{is_source_node}
 use Rattle.jobs.specs.JobView.{JobView}
 use Rattle.keyed_state.specs.Counts.{Counts}
-use Rattle.lane_core.specs.Steady.{Agrees}
 use Rattle.sink_journal.specs.declared.journal.Feed.{Feed}
 use Rattle.tuple_trace.specs.Rows.{AreRows}
 use Rattle.tuple_trace.specs.declared.row.Row.{Row}
-use Rattle.tuple_trace.specs.declared.tuple.Item.{Item}
 use Rattle.tuple_trace.specs.declared.tuple.Item.TheVariants as item
 use Rattle.tuple_trace.specs.declared.tuple.Visit.{Visit}
 use Rattle.versions.specs.Kept.{KeepKinds}
 use Rattle.versions.proofs.KeptLemmas.{accepted-kept}
 use Rattle.flow_model.specs.Agreement.{Agreement}
 use Rattle.flow_model.specs.Begin.{Begin, last_after, view_at}
-use Rattle.flow_model.specs.Feeding.{fed, fed_puts}
+use Rattle.flow_model.specs.Feeding.{fed}
 use Rattle.flow_model.specs.Lanes.{senders}
 use Rattle.flow_model.specs.Law.{Duties, IsExecution, IsFinished, Progress, initial}
 use Rattle.flow_model.specs.declared.topology.Lane.{Lane}
 use Rattle.flow_model.specs.SetupView.{SetupView, Worker}
-use Rattle.flow_model.specs.Replay.{Put, StateView, items_sent, shown}
+use Rattle.flow_model.specs.Replay.{StateView, items_sent, shown}
 use Rattle.flow_model.specs.Run.{IsRunFrom, IsRunSince, Ran, put_by}
 use Rattle.flow_model.specs.Duties.{dues_after, duties}
 use Rattle.flow_model.specs.Setup.{setup_view}
 use Rattle.flow_model.specs.Workers.{workers_at_node}
 use Rattle.flow_model.specs.declared.setup.Setup.{Setup}
-use Rattle.flow_model.proofs.ElementLemmas.{IsIn, all_of_at, before_first, before_second, in_cases, in_map, place_of_in}
+use Rattle.flow_model.proofs.ElementLemmas.{IsIn, all_of_at, before_first, before_second, in_map, place_of_in}
 use Rattle.flow_model.proofs.JobLemmas.{IsConnected, connected}
 use Rattle.flow_model.proofs.LaneLemmas.{LaneIn}
 use Rattle.flow_model.proofs.PlannedLemmas.{HasCovers, dues_rise, has_covers}
 use Rattle.flow_model.proofs.AgreementLemmas.{BringSteadily, ComesAlong, HasAgreed, IsSteadyList, agreed, agreement_of, nodes_of}
-use Rattle.flow_model.proofs.RunLemmas.{HasWorker, in_fed_puts, row_is}
-use Rattle.flow_model.proofs.SendingLemmas.{in_items, sends_steadily}
+use Rattle.flow_model.proofs.RunLemmas.{HasWorker, fed_agree, in_fed}
+use Rattle.flow_model.proofs.SendingLemmas.{sends_steadily}
 use Rattle.flow_model.proofs.StoryLemmas.{IsRising}
 use Rattle.flow_model.proofs.WorkerLawLemmas.{last_within}
 use Rattle.flow_model.proofs.WorkerLemmas.{IsWorker, Stands, item_at, journal_is, journal_of, journal_there, stands_at, who_there, worker_is, worker_no}
@@ -148,30 +146,6 @@ module _ (begin : Begin) (rows : List Row) (ran : Ran) (g : RunningFrom begin ro
       cc
 
 -- ---- the feeder's lanes
-
--- a tuple that was nowhere yet, or the end
-abbrev IsFed : Item → Type 0
-IsFed (item.Carry t) = t.trace ≡ []
-IsFed (item.Mark r cover) = ⊥
-IsFed item.Last = Unit {0}
-
-fed_agree : (x y : Item) → IsFed x → IsFed y → Agrees x y
-fed_agree (item.Carry t) (item.Carry u) a b = tt
-fed_agree (item.Carry t) (item.Mark r c) a b = absurd b
-fed_agree (item.Carry t) item.Last a b = tt
-fed_agree (item.Mark r c) y a b = absurd a
-fed_agree item.Last y a b = tt
-
-in_fed : (job : JobView) (rows : List Row) (issued : ℕ) (lane : Lane) (feeds : List Feed) (x : Item) → AreRows rows → IsIn x (fed job rows issued lane feeds ++ item.Last ∷ []) → IsFed x
-in_fed job rows issued lane feeds x are h =
-    elim (in_cases x (fed job rows issued lane feeds) (item.Last ∷ []) h) [
-      | inl a ↦
-          let p = in_items lane (fed_puts job rows issued feeds) x a in
-          let r = in_fed_puts job rows issued feeds p.0 p.1 in
-          subst IsFed (sym (p.3 ∙ ap (λ (p : Put). p.item) r.4)) ((row_is rows r.0 r.1 are r.3).unmoved)
-      | inr (inl e) ↦ subst IsFed (sym e) tt
-      | inr (inr n) ↦ absurd n
-    ]
 
 fed_steady : (job : JobView) (rows : List Row) (issued : ℕ) (lane : Lane) (feeds : List Feed) (node : ℕ) → IsConnected job → AreRows rows → is_source_node (slice_get job.nodes node) ≡ true
     → IsSteadyList (HasEdge job.edges) node (fed job rows issued lane feeds ++ item.Last ∷ [])

@@ -25,7 +25,7 @@ use Rattle.flow_model.specs.Run.{Ran}
 use Rattle.flow_model.specs.Whole.{IsOneSided, IsWhole, after_turn, any_after, any_before, asked_workers, before_turn, changed_workers, journals_at, meets_row}
 use Rattle.flow_model.specs.Workers.{workers_in}
 use Rattle.flow_model.proofs.ElementLemmas.{IsIn, any_in, before_first, filter_in, filter_map_in, in_filter, in_filter_map}
-use Rattle.flow_model.proofs.WorkerLemmas.{IsWorker, in_workers, in_workers_at_node, journal_is, journal_of, who_is, worker_no, worker_is}
+use Rattle.flow_model.proofs.WorkerLemmas.{IsWorker, in_workers, in_workers_at_node, journal_of, who_is, worker_no, worker_is}
 use Rattle.flow_model.proofs.MarkerLemmas.{turned_is_due}
 use Rattle.flow_model.proofs.PlannedLemmas.{covers_within, dues_rise, numbers_in}
 use Rattle.flow_model.proofs.SendingLemmas.{made}
@@ -35,11 +35,11 @@ use Rattle.flow_model.proofs.KindLemmas.{AreAlike, ArePieces, IsGiven, alike_giv
 use Rattle.flow_model.proofs.LineageLemmas.{Address, Meets, Passed, meets_one}
 use Rattle.flow_model.proofs.RunLemmas.{HasWorker}
 use Rattle.flow_model.proofs.TurnLemmas.{Early, Late, found_early, found_late, turns}
-use Rattle.flow_model.proofs.WholeLemmas.{fewer_pass}
+use Rattle.flow_model.proofs.WholeLemmas.{IsAsked, asked_journal, fewer_pass}
 use Rattle.flow_begin.proofs.LineageLemmas.{Born, Child, IsChain, Parted, ShareRoot, born, parted, passed, share_root, story_of, visit_of}
 use Rattle.flow_begin.proofs.RootLemmas.{Rooted, one_root, rooted}
 use Rattle.flow_begin.proofs.RunLemmas.{RunningFrom, all_agree, begun_from, duties_from, execution, finished, rise_from, start_from}
-use Rattle.std.proofs.lemmas.Option.{same_Some, slice_get_within}
+use Rattle.std.proofs.lemmas.Option.{same_Some}
 
 -- ---- chains lead along edges
 
@@ -212,26 +212,6 @@ module _ (begin : Begin) (rows : List Row) (ran : Ran) (g : RunningFrom begin ro
     never_torn = torn (share_root_of_row begin rows ran g row c d m n)
 
 -- ---- the theorem
-
--- the journal of a worker of an asked node
-record IsAsked (ran : Ran) (r : ℕ) (journal : List Entry) : Type 0 where
-  w : ℕ
-  within : HasWorker ran w
-  asked : asks ran.setup r (worker_no ran.setup w).node ≡ true
-  journal_there : journal_of ran w ≡ journal
-
-asked_journal : (ran : Ran) (r : ℕ) (journal : List Entry) → IsIn journal (journals_at ran.journals (asked_workers ran.setup r)) → IsAsked ran r journal
-asked_journal ran r journal h =
-    let p = in_filter_map (λ (who : Worker). slice_get ran.journals who.number) journal (asked_workers ran.setup r) h in
-    let q = in_filter (λ (who : Worker). asks ran.setup r who.node) p.0 (workers_in ran.setup.job) p.1 in
-    let is : IsWorker ran.setup.job p.0 = in_workers ran.setup.job p.0 q.0 in
-    let e : worker_no ran.setup p.0.number ≡ p.0 = who_is ran.setup p.0.number p.0 is.there in
-    record {
-      w = p.0.number;
-      within = slice_get_within (workers_in ran.setup.job) p.0.number p.0 is.there;
-      asked = rw e q.1;
-      journal_there = journal_is ran p.0.number journal p.2;
-    }
 
 -- ---- what is due after a beginning
 

@@ -34,7 +34,7 @@ pub record Address : Type 0 where
 pub same_address : (a b : Address) → a.worker ≡ b.worker → a.entry ≡ b.entry → a ≡ b
 same_address a b p q = λ i. record { worker = p i; entry = q i }
 
-decide_address : (a b : Address) → (a ≡ b) ⊎ (a ≢ b)
+pub decide_address : (a b : Address) → (a ≡ b) ⊎ (a ≢ b)
 decide_address a b =
     elim (cases_eq a.worker b.worker) [
       | inl p ↦ elim (cases_eq a.entry b.entry) [
@@ -211,7 +211,7 @@ passed_child ran p c k =
       birth = ap (λ (t : Tuple). t.birth) b.is ∙ (b.made_of.birth ∙ g.1);
     }
 
-passed_then : (t u v : Tuple) → Passed t u → Passed u v → Passed t v
+pub passed_then : (t u v : Tuple) → Passed t u → Passed u v → Passed t v
 passed_then t u v a b =
     record {
       row = b.row ∙ a.row;

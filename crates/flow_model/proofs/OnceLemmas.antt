@@ -76,15 +76,15 @@ module _ (rows : List Row) (ran : Ran) (g : Running rows ran) (row : ℕ) (c d :
 -- ---- the list of identities
 
 -- the entry that has this place among the identities
-record IsNamed (journal : List Entry) (q : ℕ) (x : ℕ × List ℕ) : Type 0 where
-  i : ℕ
-  lane : ℕ
-  tuple : Tuple
-  met_there : slice_get journal i ≡ Some (entry.Met lane tuple)
-  is : x ≡ (tuple.row, tuple.birth)
-  place : q ≡ length (filter_map met (take i journal))
+pub record IsNamed (journal : List Entry) (q : ℕ) (x : ℕ × List ℕ) : Type 0 where
+  pub i : ℕ
+  pub lane : ℕ
+  pub tuple : Tuple
+  pub met_there : slice_get journal i ≡ Some (entry.Met lane tuple)
+  pub is : x ≡ (tuple.row, tuple.birth)
+  pub place : q ≡ length (filter_map met (take i journal))
 
-named : (journal : List Entry) (q : ℕ) (x : ℕ × List ℕ) → slice_get (identities journal) q ≡ Some x → IsNamed journal q x
+pub named : (journal : List Entry) (q : ℕ) (x : ℕ × List ℕ) → slice_get (identities journal) q ≡ Some x → IsNamed journal q x
 named journal q x h =
     let p = map_place {B = ℕ × List ℕ} (λ (tuple : Tuple). (tuple.row, tuple.birth)) (met_tuples journal) q x h in
     let k : IsKeptFrom met journal q p.0 = filter_map_place met journal q p.0 p.1 in

@@ -59,7 +59,7 @@ puts_above job rows k issued (feed.Issued r ∷ more) p t are f h e = puts_above
 puts_above job rows k issued (feed.Stopped ∷ more) p t are f h e = puts_above job rows k issued more p t are f h e
 
 -- no two of these puts carry tuples of one row
-abbrev HasRowsOnce : List Put → Type 0
+abbrev pub HasRowsOnce : List Put → Type 0
 HasRowsOnce ps =
     (i j : ℕ) (p q : Put) (t u : Tuple) → slice_get ps i ≡ Some p → slice_get ps j ≡ Some q → p.item ≡ item.Carry t → q.item ≡ item.Carry u → t.row ≡ u.row → i ≡ j
 
@@ -82,7 +82,7 @@ once_behind p ps s e above once (suc i) zero a b t u g h c d same =
     absurd (omega arith)
 once_behind p ps s e above once (suc i) (suc j) a b t u g h c d same = ap suc (once i j a b t u g h c d same)
 
-once_fed : (job : JobView) (rows : List Row) (k issued : ℕ) (feeds : List Feed) → AreRows rows → FeedsRise k feeds → HasRowsOnce (fed_puts job rows issued feeds)
+pub once_fed : (job : JobView) (rows : List Row) (k issued : ℕ) (feeds : List Feed) → AreRows rows → FeedsRise k feeds → HasRowsOnce (fed_puts job rows issued feeds)
 once_fed job rows k issued [] are f = λ i j p q t u g h c d same. absurd (cc)
 once_fed job rows k issued (feed.Fed n ∷ more) are f = go (row_numbered rows n) refl (once_fed job rows n issued more are f.1)
   where

@@ -136,19 +136,19 @@ row_is rows zero row are e = absurd (cc)
 row_is rows (suc place) row are e = let n : place + 1 ≡ suc place = omega arith in subst (λ k. IsRow k row) n (are place row e)
 
 -- a tuple that was nowhere yet, or the end
-abbrev IsFed : Item → Type 0
+abbrev pub IsFed : Item → Type 0
 IsFed (item.Carry t) = t.trace ≡ []
 IsFed (item.Mark r cover) = ⊥
 IsFed item.Last = Unit {0}
 
-fed_agree : (x y : Item) → IsFed x → IsFed y → Agrees x y
+pub fed_agree : (x y : Item) → IsFed x → IsFed y → Agrees x y
 fed_agree (item.Carry t) (item.Carry u) a b = tt
 fed_agree (item.Carry t) (item.Mark r c) a b = absurd b
 fed_agree (item.Carry t) item.Last a b = tt
 fed_agree (item.Mark r c) y a b = absurd a
 fed_agree item.Last y a b = tt
 
-in_fed : (job : JobView) (rows : List Row) (issued : ℕ) (lane : Lane) (feeds : List Feed) (x : Item) → AreRows rows → IsIn x (fed job rows issued lane feeds ++ item.Last ∷ []) → IsFed x
+pub in_fed : (job : JobView) (rows : List Row) (issued : ℕ) (lane : Lane) (feeds : List Feed) (x : Item) → AreRows rows → IsIn x (fed job rows issued lane feeds ++ item.Last ∷ []) → IsFed x
 in_fed job rows issued lane feeds x are h =
     elim (in_cases x (fed job rows issued lane feeds) (item.Last ∷ []) h) [
       | inl a ↦

@@ -199,13 +199,13 @@ module _ (rows : List Row) (ran : Ran) (g : Running rows ran) (row r : ℕ) (c d
 -- ---- the theorem
 
 -- the journal of a worker of an asked node
-record IsAsked (ran : Ran) (r : ℕ) (journal : List Entry) : Type 0 where
-  w : ℕ
-  within : HasWorker ran w
-  asked : asks ran.setup r (worker_no ran.setup w).node ≡ true
-  journal_there : journal_of ran w ≡ journal
+pub record IsAsked (ran : Ran) (r : ℕ) (journal : List Entry) : Type 0 where
+  pub w : ℕ
+  pub within : HasWorker ran w
+  pub asked : asks ran.setup r (worker_no ran.setup w).node ≡ true
+  pub journal_there : journal_of ran w ≡ journal
 
-asked_journal : (ran : Ran) (r : ℕ) (journal : List Entry) → IsIn journal (journals_at ran.journals (asked_workers ran.setup r)) → IsAsked ran r journal
+pub asked_journal : (ran : Ran) (r : ℕ) (journal : List Entry) → IsIn journal (journals_at ran.journals (asked_workers ran.setup r)) → IsAsked ran r journal
 asked_journal ran r journal h =
     let p = in_filter_map (λ (who : Worker). slice_get ran.journals who.number) journal (asked_workers ran.setup r) h in
     let q = in_filter (λ (who : Worker). asks ran.setup r who.node) p.0 (workers_in ran.setup.job) p.1 in

@@ -1,5 +1,5 @@
 -- The first requests of a setup, and their plans.
-use Rattle.std.proofs.Common.{◌≡◌, ◌∙◌, ◌<◌, ◌≤◌, ◌+◌, ℕ, zero, suc, List, [], ◌∷◌, refl, sym, ap, arith, drop, min, take, Some, None, Option, slice_get, Bool, true, false, ◌||◌}
+use Rattle.std.proofs.Common.{◌≡◌, ◌∙◌, ◌<◌, ◌≤◌, ◌+◌, ℕ, zero, suc, List, [], ◌∷◌, refl, sym, ap, arith, drop, map, min, take, Some, None, Option, slice_get, Bool, true, false, ◌||◌}
 use Rattle.std.specs.List.{list_any, zip}
 use Rattle.std.proofs.lemmas.List.{length-take, take-append-drop}
 use Rattle.std.proofs.lemmas.List.Folds.{list_any-append}
@@ -32,6 +32,10 @@ take_get (suc n) zero (y ∷ xs) x g = g
 take_get (suc n) (suc k) (y ∷ xs) x g = take_get n k xs x g
 
 -- ---- pairs
+
+pub same_pairs : {A B : Type 0} (ps : List (A × B)) → map (λ (p : A × B). (p.0, p.1)) ps ≡ ps
+same_pairs [] = refl
+same_pairs (p ∷ ps) = ap (λ l. p ∷ l) (same_pairs ps)
 
 pub get_zip : {A B : Type 0} (xs : List A) (ys : List B) (k : ℕ) (x : A) (y : B) → slice_get xs k ≡ Some x → slice_get ys k ≡ Some y → slice_get (zip xs ys) k ≡ Some (x, y)
 get_zip [] ys k x y g h = absurd (cc)

@@ -22,12 +22,11 @@ use Rattle.flow_model.specs.Requests.{afters}
 use Rattle.flow_model.specs.Waiting.{with_afters}
 use Rattle.stream_law.specs.Later.{IsJudgedPrefix}
 use Rattle.flow_dag.specs.Masks.{Has}
-use Rattle.flow_model.specs.Planned.{is_made_split, makes_split}
-use Rattle.std.specs.List.{list_any}
-use Rattle.std.proofs.lemmas.Bool.{or_right}
+use Rattle.flow_model.specs.Planned.{is_made_split}
 use Rattle.flow_model.specs.declared.setup.Setup.{Setup}
 use Rattle.stream_step.specs.Pending.{AreAsked, SplitWithin}
 use Rattle.stream_step.specs.declared.stream.Stream.{Stream}
+use Rattle.stream_step.proofs.ResumeLemmas.{made_right}
 use Rattle.stream_intake.specs.Intake.{IsKnownTo, accepted_after, judged_in, known_after}
 use Rattle.stream_intake.specs.Intake.{refused_after}
 
@@ -224,13 +223,6 @@ none_refused stream known found le =
     ∙ drop-length (judged_in stream known).refused
 
 -- ---- a stream to which they are added
-
-made_right : (xs ys : List Request) (node : ℕ) → is_made_split ys node ≡ true
-    → is_made_split (xs ++ ys) node ≡ true
-made_right [] ys node e = e
-made_right (x ∷ xs) ys node e =
-    or_right (list_any (makes_split node) x.changes) (is_made_split (xs ++ ys) node)
-    (made_right xs ys node e)
 
 pub added_accepted : JudgedLater → StayAccepted
     → (stream : Stream) (known more later : List Request) → later

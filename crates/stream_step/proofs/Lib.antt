@@ -1,3 +1,3 @@
 pub mod PendingLemmas
 pub mod PartLemmas
-mod ResumeLemmas
+pub mod ResumeLemmas

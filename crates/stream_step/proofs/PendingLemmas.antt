@@ -94,7 +94,7 @@ and_of : (a b : Bool) → a ≡ true → b ≡ true → (a && b) ≡ true
 and_of true b e f = f
 and_of false b e f = absurd (cc)
 
-of_le : (a b : ℕ) → a ≤ b → nat_le a b ≡ true
+pub of_le : (a b : ℕ) → a ≤ b → nat_le a b ≡ true
 of_le a b e = grind (arith, nat_tests)
 
 pub fed_due : (fed : ℕ) (xs : List Request) → are_fed fed xs ≡ true

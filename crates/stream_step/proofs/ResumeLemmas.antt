@@ -2,7 +2,6 @@
 use Rattle.std.proofs.Common.{◌≡◌, ◌∙◌, ◌≤◌, ◌++◌, ℕ, List, [], ◌∷◌, true, drop, length, map}
 use Rattle.std.proofs.Common.{nat_le, take, refl, sym, subst, ap, arith}
 use Rattle.std.proofs.Math.Nat.{le-max_right}
-use Rattle.std.proofs.lemmas.Bool.Decides.{nat_tests}
 use Rattle.std.proofs.lemmas.List.{length-take-le, take-append-drop}
 use Rattle.std.proofs.lemmas.Bool.{and_from}
 use Rattle.std.specs.List.{list_any}
@@ -19,12 +18,9 @@ use Rattle.stream_save.specs.StreamReading.{AreWaits}
 use Rattle.stream_step.specs.Pending.{AreAsked, lifted}
 use Rattle.stream_step.proofs.PendingLemmas.{KeepOrder, MayWait, are_fed, changes_append}
 use Rattle.stream_step.proofs.PendingLemmas.{changes_lifted, or_right, order_back, order_both}
-use Rattle.stream_step.proofs.PendingLemmas.{order_lifted}
+use Rattle.stream_step.proofs.PendingLemmas.{of_le, order_lifted}
 
 -- ---- the rows that they wait for
-
-of_le : (a b : ℕ) → a ≤ b → nat_le a b ≡ true
-of_le a b e = grind (arith, nat_tests)
 
 pub waits_in_order : (row low : ℕ) (waits : List ℕ) (xs : List Request) → length waits ≡ length xs
     → AreWaits row low waits → AreInOrder low (with_afters waits xs)

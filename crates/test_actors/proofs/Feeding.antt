@@ -9,7 +9,7 @@ use Rattle.jobs.specs.JobView.{JobView}
 use Rattle.lane_core.specs.Steady.{Agrees, ComesTo, HasComeTo, MayFollow}
 use Rattle.lane_core.specs.declared.form.Origin.{Origin}
 use Rattle.tuple_trace.specs.declared.tuple.Item.{Item}
-use Rattle.tuple_trace.specs.declared.tuple.Item.TheVariants.{Carry, Last, Mark}
+use Rattle.tuple_trace.specs.declared.tuple.Item.TheVariants.{Carry}
 use Rattle.tuple_trace.specs.declared.tuple.Tuple.{Tuple}
 use Rattle.tuple_trace.specs.declared.tuple.Visit.{Visit}
 use Rattle.flow_model.specs.Agreement.{IsGraphOf}
@@ -48,11 +48,6 @@ last_place {A = A} f xs ys x e = ap (λ l. slice_get (map f l) (length xs)) e �
     at : (zs : List A) → slice_get (zs ++ x ∷ []) (length zs) ≡ Some x
     at [] = refl
     at (z ∷ zs) = at zs
-
-agrees_last : (x : Item) → Agrees x Last
-agrees_last (Carry u) = tt
-agrees_last (Mark r c) = tt
-agrees_last Last = tt
 
 pub may_feed : (origin : Origin) (sent : List Item) (t : Tuple) → IsUnled origin → t.trace ≡ [] → MayFollow origin sent (Carry t)
 may_feed origin sent t none e = (way, all_of_at (λ x. Agrees x (Carry t)) sent (λ x i. agrees_new t x e))

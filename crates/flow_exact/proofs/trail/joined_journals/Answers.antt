@@ -1,15 +1,12 @@
-use Rattle.std.proofs.Common.{◌≡◌, ◌∙◌, List, [], ◌∷◌, ap, length, map, refl, sym}
+use Rattle.std.proofs.Common.{◌∙◌, ap, length, map, sym}
 use Rattle.std.specs.Iterator.Adapters.{zip_first, zip_second}
 use Rattle.std.specs.Vec.Iter.{into_iter_items, into_iter_len}
 use Rattle.std.proofs.lemmas.Iterator.{YieldsList-from_zip}
 use Rattle.std.proofs.lemmas.Iterator.Adapters.{YieldsList-from_vec}
 use Rattle.std.proofs.lemmas.Iterator.Consumers.{YieldsList-end}
 use Rattle.savepoint.specs.Parts.{joined_journal}
+use Rattle.savepoint.proofs.CutLemmas.{same_pairs}
 use Rattle.flow_exact.proofs.trail.joined_journals.Goals as goal
-
-same_pairs : {A B : Type 0} (ps : List (A × B)) → map (λ (p : A × B). (p.0, p.1)) ps ≡ ps
-same_pairs [] = refl
-same_pairs (p ∷ ps) = ap (λ l. p ∷ l) (same_pairs ps)
 
 pub returns : goal.returns
 returns c =
