@@ -1,5 +1,5 @@
 -- A worker's names tell its number.
-use Rattle.std.proofs.Common.{◌≡◌, ◌∙◌, ◌<◌, ◌≤◌, ◌+◌, ℕ, zero, suc, List, [], ◌∷◌, inl, inr, refl, sym, ap, subst, arith, true, false, Bool, length, take, Some, slice_get}
+use Rattle.std.proofs.Common.{◌≡◌, ◌∙◌, ◌<◌, ◌≤◌, ◌+◌, ℕ, zero, suc, List, [], ◌∷◌, inl, inr, refl, sym, ap, subst, arith, true, false, Bool, cond, length, take, Some, slice_get}
 use Rattle.std.specs.Prelude.{nat_eq, not}
 use Rattle.std.specs.Cmp.Lexicographic.{pointwise}
 use Rattle.std.specs.List.{list_any}
@@ -7,10 +7,10 @@ use Rattle.std.proofs.lemmas.Bool.{cases_lt, eq-eqb}
 use Rattle.std.proofs.lemmas.Fmt.{decimal_injective}
 use Rattle.std.proofs.lemmas.Option.{same_Some}
 use Rattle.jobs.specs.Law.{IsLawful}
-use Rattle.jobs.specs.Nodes.{most_workers, worker_count, workers_of, workers_with}
+use Rattle.jobs.proofs.RoleLemmas.{kind_row}
+use Rattle.jobs.specs.Nodes.{is_source, most_workers, worker_count, workers_of, workers_with}
 use Rattle.jobs.specs.JobView.{JobView}
 use Rattle.jobs.specs.declared.func.Func.{Func}
-use Rattle.jobs.specs.declared.func.Func.TheVariants as func
 use Rattle.jobs.specs.declared.func.NodeDef.{NodeDef}
 use Rattle.audit_laws.specs.Names.{Named, named_at, named_workers}
 use Rattle.flow_model.proofs.ElementLemmas.{IsIn, at_of_all, in_any, in_of_place}
@@ -93,14 +93,11 @@ one_node job is i j a b g h e =
 -- ---- places
 
 few : (f : Func) (workers : ℕ) → workers ≤ most_workers f → workers_with f workers ≤ 8
-few func.Source workers le = omega arith
-few (func.Filter conds) workers le = le
-few (func.Map steps) workers le = le
-few (func.Enrich lookup) workers le = le
-few (func.Count count) workers le = le
-few (func.Split split) workers le = le
-few func.Replicate workers le = le
-few (func.Sink listed) workers le = omega arith
+few f workers le = go (is_source f)
+  where
+    go : (b : Bool) → cond b 0 workers ≤ 8
+    go true = omega arith
+    go false = omega (arith, le, (kind_row f).few_workers)
 
 pub few_workers : (job : JobView) → IsLawful job → (i : ℕ) (def : NodeDef) → slice_get job.nodes i ≡ Some def → workers_of def ≤ 8
 few_workers job is i def g =

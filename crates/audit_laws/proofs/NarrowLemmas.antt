@@ -1,11 +1,11 @@
 -- The rows and births of the tuples of a run are in the ranges of their types.
-use Rattle.std.proofs.Common.{◌≡◌, ◌∙◌, ◌≤◌, ℕ, zero, suc, List, [], inl, inr, refl, sym, ap, subst, arith, length, true, false, Bool, cond, ◌==◌, None, Option, Some, slice_get}
+use Rattle.std.proofs.Common.{◌≡◌, ◌∙◌, ◌≤◌, ℕ, zero, suc, List, [], inl, inr, refl, sym, ap, subst, arith, length, true, false, Bool, cond, ◌==◌, ◌&&◌, nat_le, None, Option, Some, slice_get}
 use Rattle.std.proofs.lemmas.Option.{slice_get_within}
 use Rattle.jobs.specs.Law.{IsLawful}
-use Rattle.jobs.specs.Nodes.{fan_out, most_roof}
+use Rattle.jobs.specs.Kinds.{row_at}
+use Rattle.jobs.specs.Nodes.{fan_out, is_free, most_roof}
 use Rattle.jobs.specs.Ports.{are_ports, out_count}
 use Rattle.jobs.specs.declared.func.Func.{Func}
-use Rattle.jobs.specs.declared.func.Func.TheVariants as func
 use Rattle.jobs.specs.declared.func.NodeDef.{NodeDef}
 use Rattle.jobs.proofs.RoofLemmas.{roof_of_node}
 use Rattle.operators.specs.Laws.{IsMadeOf}
@@ -64,18 +64,12 @@ narrow_fed begin setup rows are lane t i =
 -- ---- what a worker sends
 
 few_pieces : (f : Func) (outs : ℕ) → most_roof f outs ≤ 16
-few_pieces func.Source outs = omega arith
-few_pieces (func.Filter conds) outs = go (outs == 2)
+few_pieces f outs = go (is_free f) (nat_le 2 (row_at f).most_outs && outs == 2)
   where
-    go : (b : Bool) → cond b 1 16 ≤ 16
-    go true = omega arith
-    go false = omega arith
-few_pieces (func.Map steps) outs = omega arith
-few_pieces (func.Enrich lookup) outs = omega arith
-few_pieces (func.Count count) outs = omega arith
-few_pieces (func.Split split) outs = omega arith
-few_pieces func.Replicate outs = omega arith
-few_pieces (func.Sink listed) outs = omega arith
+    go : (a b : Bool) → cond a (cond b 1 16) 1 ≤ 16
+    go true true = omega arith
+    go true false = omega arith
+    go false b = omega arith
 
 -- what a node may be given makes few pieces, and has the node's ports
 record Fits (setup : SetupView) (node : ℕ) (f : Func) : Type 0 where

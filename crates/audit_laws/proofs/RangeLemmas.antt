@@ -9,12 +9,12 @@ use Rattle.std.specs.Ordering.{nat_cmp}
 use Rattle.std.specs.declared.cmp.Ordering.TheVariants.{Less, Equal, Greater}
 use Rattle.jobs.specs.JobView.{JobView}
 use Rattle.jobs.specs.declared.func.Func.{Func}
-use Rattle.jobs.specs.declared.func.Func.TheVariants as func
 use Rattle.keyed_state.specs.Counts.{Counts, carried, clamp, scaled}
 use Rattle.keyed_state.specs.declared.carry.Carry.{Carry}
 use Rattle.keyed_state.specs.declared.carry.Carry.TheVariants as carry
 use Rattle.operators.specs.Fields.{text_at}
-use Rattle.operators.specs.Meaning.{count_after, counts_after}
+use Rattle.operators.specs.Meaning.{counts_after}
+use Rattle.operators.proofs.CountLemmas.{counts_cases}
 use Rattle.sink_journal.specs.declared.journal.Entry.{Entry}
 use Rattle.sink_journal.specs.declared.journal.Entry.TheVariants as entry
 use Rattle.tuple_trace.specs.declared.tuple.Tuple.{Tuple}
@@ -92,15 +92,11 @@ carried_range (carry.DropBelow least) counts h =
     list_range (filter _ (entries counts)) (λ c i. h c (in_filter _ c (entries counts) i).0)
 
 step_range : (job : JobView) (f : Func) (counts : Counts) (t : Tuple) → EachInRange (entries counts) → EachInRange (entries (counts_after job f counts t))
-step_range job func.Source counts t h = h
-step_range job (func.Filter conds) counts t h = h
-step_range job (func.Map steps) counts t h = h
-step_range job (func.Enrich lookup) counts t h = h
-step_range job (func.Count count) counts t h =
-    insert_range counts (text_at job.columns t.fields count.key) (count_after job.columns count counts t) (clamp_range _) h
-step_range job (func.Split split) counts t h = h
-step_range job func.Replicate counts t h = h
-step_range job (func.Sink listed) counts t h = h
+step_range job f counts t h =
+    elim (counts_cases job f counts t) [
+      | inl same ↦ rw same h
+      | inr set ↦ subst (λ (c : Counts). EachInRange (entries c)) (sym set.after) (insert_range counts (text_at job.columns t.fields set.key) (clamp set.sum) (clamp_range set.sum) h)
+    ]
 
 after_range : (setup : SetupView) (who : Worker) (view : StateView) (x : Entry) → EachInRange (entries view.counts) → EachInRange (entries (after setup who view x).counts)
 after_range setup who view (entry.Met l t) h = step_range setup.job view.func view.counts t h

@@ -7,12 +7,15 @@ use Rattle.std.proofs.lemmas.Bool.{and_parts, cases_lt, eq-eqb, eqb-true, leb-tr
 use Rattle.std.proofs.lemmas.List.{length-map}
 use Rattle.std.proofs.lemmas.Map.Steps.{le-length_from_below}
 use Rattle.flow_dag.specs.declared.edge.Edge.{Edge}
+use Rattle.jobs.specs.Kinds.{row_at}
 use Rattle.jobs.specs.Nodes.{fan_out}
 use Rattle.jobs.specs.Ports.{are_ports, has_port, has_ports, leaves, out_count}
 use Rattle.jobs.specs.declared.func.Func.{Func}
-use Rattle.jobs.specs.declared.func.Func.TheVariants as func
+use Rattle.jobs.specs.declared.kind.Shape.{Shape}
+use Rattle.jobs.specs.declared.kind.Shape.TheVariants as shape
 use Rattle.jobs.proofs.PortLemmas.{has_ports-lacks}
-use Rattle.operators.specs.Laws.{MayLeaveBy, births_of}
+use Rattle.jobs.proofs.RoleLemmas.{kind_row}
+use Rattle.operators.specs.Laws.{MayLeaveAs, MayLeaveBy, births_as, births_of}
 use Rattle.operators.specs.Ports.{out_ports}
 use Rattle.flow_model.proofs.ElementLemmas.{IsIn, all_of_at, any_in, at_of_all, filter_in, in_any, in_cases, in_of_place, map_in}
 use Rattle.flow_model.proofs.JobLemmas.{ports_by_kind}
@@ -71,22 +74,21 @@ port_below edges node port all i =
           absurd (omega arith)
     ]
 
-port_narrow : (edges : List Edge) (node k port : ℕ) → are_ports edges node func.Replicate ≡ true → slice_get (out_ports edges node) k ≡ Some port → port < 2 ^ 32
-port_narrow edges node k port all g =
-    let p = ports_by_kind edges node func.Replicate all in
-    let few : out_count edges node ≤ 8 = leb-true (out_count edges node) 8 (and_parts (nat_le 2 (out_count edges node)) (nat_le (out_count edges node) 8) p.1).1 in
+port_narrow : (edges : List Edge) (node : ℕ) (f : Func) (k port : ℕ) → are_ports edges node f ≡ true → slice_get (out_ports edges node) k ≡ Some port → port < 2 ^ 32
+port_narrow edges node f k port all g =
+    let p = ports_by_kind edges node f all in
+    let few : out_count edges node ≤ (row_at f).most_outs =
+    leb-true (out_count edges node) (row_at f).most_outs (and_parts (nat_le (row_at f).least_outs (out_count edges node)) (nat_le (out_count edges node) (row_at f).most_outs) p.1).1 in
     let lt = port_below edges node port p.2 (in_of_place port (out_ports edges node) k g) in
-    omega arith
+    omega (arith, few, lt, (kind_row f).few_outs)
 
 -- ---- births
 
 pub births_narrow : (edges : List Edge) (node : ℕ) (f : Func) (births : List ℕ) (k port : ℕ) → fan_out f ≤ 16 → are_ports edges node f ≡ true
     → MayLeaveBy edges node f k port → AreNarrow births → AreNarrow (births_of f births k port)
-births_narrow edges node func.Source births k port few all may h = h
-births_narrow edges node (func.Filter conds) births k port few all may h = h
-births_narrow edges node (func.Map steps) births k port few all may h = h
-births_narrow edges node (func.Enrich lookup) births k port few all may h = h
-births_narrow edges node (func.Count count) births k port few all may h = h
-births_narrow edges node (func.Split split) births k port few all may h = let lt = may.0 in one_more births k h (omega arith)
-births_narrow edges node func.Replicate births k port few all may h = one_more births port h (port_narrow edges node k port all may)
-births_narrow edges node (func.Sink listed) births k port few all may h = h
+births_narrow edges node f births k port few all may h = go (row_at f).shape may
+  where
+    go : (s : Shape) → MayLeaveAs s edges node f k port → AreNarrow (births_as s births k port)
+    go shape.Pieces may = let lt = may.0 in one_more births k h (omega arith)
+    go shape.Copies may = one_more births port h (port_narrow edges node f k port all may)
+    go _ may = h

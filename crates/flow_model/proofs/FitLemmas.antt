@@ -1,16 +1,17 @@
 -- Every port that a function puts out on has an edge, and every tuple a lane there.
-use Rattle.std.proofs.Common.{◌≡◌, ◌∙◌, ◌<◌, ◌+◌, ◌==◌, ◌&&◌, ◌||◌, ℕ, suc, List, [], ◌∷◌, refl, sym, subst, ap, arith, true, false, Bool, length, Some, Option, slice_get, option_map, nat_le}
+use Rattle.std.proofs.Common.{◌≡◌, ◌∙◌, ◌<◌, ◌+◌, ◌==◌, ◌&&◌, ◌||◌, ℕ, suc, List, [], ◌∷◌, refl, sym, subst, ap, arith, true, false, Bool, length, Some, None, Option, slice_get, option_map, nat_le}
 use Rattle.std.specs.List.{enumerate_from}
 use Rattle.std.proofs.lemmas.Bool.{and_parts, eqb-true, leb-true}
 use Rattle.flow_dag.specs.declared.edge.Edge.{Edge}
+use Rattle.jobs.specs.Kinds.{key_of, row_at}
 use Rattle.jobs.specs.Nodes.{is_source, is_source_node, workers_of}
 use Rattle.jobs.specs.Ports.{are_ports, has_port, has_ports, out_count}
 use Rattle.jobs.specs.JobView.{JobView}
 use Rattle.jobs.specs.declared.func.Func.{Func}
-use Rattle.jobs.specs.declared.func.Func.TheVariants as func
 use Rattle.jobs.specs.declared.func.NodeDef.{NodeDef}
 use Rattle.jobs.proofs.PortLemmas.{has_ports-lacks}
-use Rattle.operators.specs.Lanes.{worker_among}
+use Rattle.jobs.proofs.RoleLemmas.{kind_row}
+use Rattle.operators.specs.Lanes.{worker_among, worker_by}
 use Rattle.tuple_trace.specs.declared.tuple.Tuple.{Tuple}
 use Rattle.flow_model.specs.Lanes.{first_on, lane_along, lane_of, lanes, receiver_of, senders}
 use Rattle.flow_model.specs.declared.topology.Lane.{Lane}
@@ -20,7 +21,7 @@ use Rattle.flow_model.proofs.ElementLemmas.{IsIn, in_of_place}
 use Rattle.flow_model.proofs.JobLemmas.{IsConnected, ports_by_kind}
 use Rattle.flow_model.proofs.LaneLemmas.{lane_of_edge}
 use Rattle.flow_model.proofs.WorkerListLemmas.{length-workers_at_node}
-use Rattle.flow_model.proofs.WorkerLemmas.{all_workers, item_at, source_is}
+use Rattle.flow_model.proofs.WorkerLemmas.{all_workers, item_at}
 
 -- ---- the edge of a port
 
@@ -50,9 +51,10 @@ port_edge (e ∷ more) node port first h = go (e.from == node && e.port == port)
 
 pub source_port : (edges : List Edge) (node : ℕ) (f : Func) → is_source f ≡ true → are_ports edges node f ≡ true → has_port edges node 0 ≡ true
 source_port edges node f s all =
-    let k = ports_by_kind edges node func.Source (subst (λ (g : Func). are_ports edges node g ≡ true) (source_is f s) all) in
-    let leave = and_parts (nat_le 1 (out_count edges node)) (nat_le (out_count edges node) 1) k.1 in
-    go (has_port edges node 0) refl (omega (arith, leb-true 1 (out_count edges node) leave.0)) k.2
+    let k = ports_by_kind edges node f all in
+    let row = (kind_row f).of_source s in
+    let leave = and_parts (nat_le (row_at f).least_outs (out_count edges node)) (nat_le (out_count edges node) (row_at f).most_outs) k.1 in
+    go (has_port edges node 0) refl (omega (arith, row.leaves_one.0, leb-true (row_at f).least_outs (out_count edges node) leave.0)) k.2
   where
     go : (b : Bool) → has_port edges node 0 ≡ b → 0 < out_count edges node → has_ports edges node (out_count edges node) ≡ true → has_port edges node 0 ≡ true
     go true e lt p = e
@@ -61,14 +63,11 @@ source_port edges node f s all =
 -- ---- the worker that a tuple reaches
 
 pub among_within : (job : JobView) (f : Func) (workers : ℕ) (t : Tuple) → 0 < workers → worker_among job.columns f workers t < workers
-among_within job func.Source workers t lt = omega arith
-among_within job (func.Filter conds) workers t lt = omega arith
-among_within job (func.Map steps) workers t lt = omega arith
-among_within job (func.Enrich lookup) workers t lt = omega arith
-among_within job (func.Count count) workers t lt = omega arith
-among_within job (func.Split split) workers t lt = omega arith
-among_within job func.Replicate workers t lt = omega arith
-among_within job (func.Sink listed) workers t lt = omega arith
+among_within job f workers t lt = go (key_of f)
+  where
+    go : (o : Option ℕ) → worker_by job.columns o workers t < workers
+    go None = omega arith
+    go (Some key) = omega arith
 
 some_in : {A : Type 0} (xs : List A) (x : A) → IsIn x xs → 0 < length xs
 some_in [] x i = absurd i

@@ -13,8 +13,8 @@ use Rattle.jobs.specs.Law.{IsLawful}
 use Rattle.jobs.specs.Nodes.{is_source, is_source_node, most_workers}
 use Rattle.jobs.specs.Ports.{are_ports, has_edge, has_ports, is_entered, leads_twice, leaves, may_enter, may_leave, out_count}
 use Rattle.jobs.specs.JobView.{JobView}
+use Rattle.jobs.proofs.RoleLemmas.{other_entered, source_unentered}
 use Rattle.jobs.specs.declared.func.Func.{Func}
-use Rattle.jobs.specs.declared.func.Func.TheVariants as func
 use Rattle.jobs.specs.declared.func.NodeDef.{NodeDef}
 use Rattle.flow_model.specs.Lanes.{lanes_in, senders}
 use Rattle.flow_model.specs.declared.topology.Lane.{Lane}
@@ -22,7 +22,7 @@ use Rattle.flow_model.specs.SetupView.{Worker}
 use Rattle.flow_model.specs.Workers.{workers_in, workers_at_node}
 use Rattle.flow_model.proofs.ElementLemmas.{IsIn, at_of_all, in_any, in_of_place, map_in}
 use Rattle.flow_model.proofs.WorkerListLemmas.{length-workers_at_node}
-use Rattle.flow_model.proofs.WorkerLemmas.{IsWorker, all_workers, item_at, workers_at_node_in, source_is}
+use Rattle.flow_model.proofs.WorkerLemmas.{IsWorker, all_workers, item_at, workers_at_node_in}
 use Rattle.flow_model.proofs.LaneLemmas.{lane_of_edge, lanes_that_in}
 
 -- What the laws of runs use of a job: its edges lead from lower ranks to higher ones, none into a source; every other node has a worker, each
@@ -74,19 +74,6 @@ one_edge_to edges node f all i j a b g h p q e = go edges (not-true (leads_twice
     go (x ∷ more) none zero (suc j) g h = let is : x ≡ a = cc in absurd (here x b more j h (ap (λ (z : Edge). z.from) is ∙ p) q (ap (λ (z : Edge). z.to) is ∙ e) none)
     go (x ∷ more) none (suc i) zero g h = let is : x ≡ b = cc in absurd (here x a more i g (ap (λ (z : Edge). z.from) is ∙ q) p (ap (λ (z : Edge). z.to) is ∙ sym e) none)
     go (x ∷ more) none (suc i) (suc j) g h = go more (or_parts (leaves node x && has_edge more node x.to) (leads_twice more node) none).1 i j g h
-
-source_unentered : (f : Func) (entered : Bool) → is_source f ≡ true → may_enter f entered ≡ true → entered ≡ false
-source_unentered f entered e m = not-true entered (subst (λ (g : Func). may_enter g entered ≡ true) (source_is f e) m)
-
-other_entered : (f : Func) (entered : Bool) → is_source f ≡ false → may_enter f entered ≡ true → entered ≡ true
-other_entered func.Source entered e m = absurd (cc)
-other_entered (func.Filter conds) entered e m = m
-other_entered (func.Map steps) entered e m = m
-other_entered (func.Enrich lookup) entered e m = m
-other_entered (func.Count count) entered e m = m
-other_entered (func.Split split) entered e m = m
-other_entered func.Replicate entered e m = m
-other_entered (func.Sink listed) entered e m = m
 
 edge_enters : (edges : List Edge) (i : ℕ) (edge : Edge) → slice_get edges i ≡ Some edge → is_entered edges edge.to ≡ true
 edge_enters edges i edge g =

@@ -1,27 +1,23 @@
 -- The function in force at a worker is one that the job or a request gives its node, and goes with what the job gives it.
-use Rattle.std.proofs.Common.{◌≡◌, ◌∙◌, ◌≢◌, ◌<◌, ◌≤◌, ◌++◌, ◌==◌, ◌&&◌, ◌||◌, nat_le, ℕ, zero, suc, List, [], ◌∷◌, ◌⊎◌, inl, inr, refl, sym, subst, ap, true, false, Bool, cond, Some, None, Option, slice_get, All, append_assoc, arith, length, take}
+use Rattle.std.proofs.Common.{◌≡◌, ◌∙◌, ◌≢◌, ◌<◌, ◌≤◌, ◌++◌, ◌==◌, ◌&&◌, ◌||◌, nat_le, ℕ, zero, suc, List, [], ◌∷◌, ◌⊎◌, inl, inr, refl, sym, subst, ap, true, false, Bool, cond, Some, None, Option, slice_get, All, append_assoc, arith, length}
 use Rattle.std.proofs.lemmas.Bool.{and_from, and_parts, eq-eqb, eqb-true, leb-true, or_cases, or_left, or_right}
 use Rattle.std.proofs.lemmas.List.{append-nil, append_cancel_left}
 use Rattle.std.specs.List.{list_any}
 use Rattle.flow_dag.specs.declared.edge.Edge.{Edge}
 use Rattle.jobs.specs.Law.{IsLawful}
-use Rattle.jobs.specs.Nodes.{fan_out, is_count, is_free, is_replicate, is_split, may_emit}
+use Rattle.jobs.proofs.RoleLemmas.{IsFreeRow, kind_row}
+use Rattle.jobs.specs.Kinds.{KindView, are_copies, are_pieces, are_several, are_sinks, row_at, row_of}
+use Rattle.jobs.specs.Nodes.{fan_out, is_count, is_free, is_replicate, is_sink, is_split, may_emit}
 use Rattle.jobs.specs.Ports.{are_ports, is_entered, may_enter, may_leave, out_count}
 use Rattle.jobs.specs.JobView.{JobView}
 use Rattle.jobs.proofs.RoofLemmas.{roof_of_node}
 use Rattle.jobs.specs.declared.func.Func.{Func}
-use Rattle.jobs.specs.declared.func.Func.TheVariants as func
+use Rattle.jobs.specs.declared.kind.Shape.{Shape}
+use Rattle.jobs.specs.declared.kind.Shape.TheVariants as shape
 use Rattle.jobs.specs.declared.func.NodeDef.{NodeDef}
 use Rattle.keyed_state.specs.Counts.{Counts}
-use Rattle.operators.specs.Laws.{IsMadeOf, births_of}
-use Rattle.operators.specs.Fields.{text_at}
-use Rattle.operators.specs.Meaning.{piece_sent, step}
-use Rattle.operators.specs.Pieces.{pieces}
-use Rattle.jobs.specs.declared.func.SplitBy.{SplitBy}
-use Rattle.std.specs.List.{enumerate_from}
-use Rattle.std.proofs.lemmas.Option.{slice_get_within}
-use Rattle.flow_model.proofs.LaneLemmas.{enumerate_get}
-use Rattle.flow_model.proofs.PlaceLemmas.{map_place}
+use Rattle.operators.specs.Laws.{IsMadeOf, births_as, births_of}
+use Rattle.operators.specs.Meaning.{step}
 use Rattle.operators.specs.declared.output.Output.{Output}
 use Rattle.operators.proofs.EdgeLemmas.{outputs_differ}
 use Rattle.operators.proofs.OutputLemmas.{outputs_made}
@@ -32,10 +28,10 @@ use Rattle.tuple_trace.specs.declared.tuple.Visit.{Visit}
 use Rattle.versions.specs.Judged.{NameNodes}
 use Rattle.versions.specs.Judging.{is_like, leaves_once, may_replace}
 use Rattle.versions.specs.Kept.{KeepKinds, KeepsKind}
+use Rattle.versions.proofs.KeptLemmas.{are_like}
 use Rattle.versions.specs.declared.request.Change.{Change}
 use Rattle.versions.specs.declared.request.Request.{Request}
 use Rattle.flow_model.specs.SetupView.{SetupView, Worker}
-use Rattle.flow_model.specs.Alone.{is_sink}
 use Rattle.flow_model.specs.Planned.{copies_at, is_made_split, is_replicate_node, is_split_node, makes_split, splits_at}
 use Rattle.flow_model.specs.Replay.{StateView, after, after_change}
 use Rattle.flow_model.specs.Requests.{change_among, change_asked, change_by}
@@ -57,37 +53,27 @@ alike_self edges node f = record { copy = refl; count = refl; sink = refl; ports
 -- two functions of one kind go with each other
 alike_of_like : (edges : List Edge) (node : ℕ) (f g : Func) → is_like f g ≡ true → AreAlike edges node f g
 unfolding are_ports
-alike_of_like edges node (func.Filter a) (func.Filter b) h = record { copy = refl; count = refl; sink = refl; ports = λ h. h }
-alike_of_like edges node (func.Map a) (func.Map b) h = record { copy = refl; count = refl; sink = refl; ports = λ h. h }
-alike_of_like edges node (func.Enrich a) (func.Enrich b) h = record { copy = refl; count = refl; sink = refl; ports = λ h. h }
-alike_of_like edges node (func.Count a) (func.Count b) h = record { copy = refl; count = refl; sink = refl; ports = λ h. h }
-alike_of_like edges node (func.Split a) (func.Split b) h = record { copy = refl; count = refl; sink = refl; ports = λ h. h }
-alike_of_like edges node _ _ h = absurd (cc)
+alike_of_like edges node f g h =
+    let row : row_at g ≡ row_at f = ap row_of (sym (are_like f g h).kind) in
+    record {
+      copy = ap (λ (r : KindView). are_copies r.shape) row;
+      count = ap (λ (r : KindView). r.counts) row;
+      sink = ap (λ (r : KindView). are_sinks r.role) row;
+      ports = λ h. rw row h;
+    }
 
--- a function of a free kind neither copies nor counts, and is no sink; it is entered, and one edge may leave it
-record IsFreeKind (f : Func) : Type 0 where
-  copy : is_replicate f ≡ false
-  count : is_count f ≡ false
-  sink : is_sink f ≡ false
-  enter : (entered : Bool) → may_enter f entered ≡ entered
-  leave : may_leave f 1 ≡ true
-
-free_kind : (f : Func) → is_free f ≡ true → IsFreeKind f
-free_kind (func.Filter a) h = record { copy = refl; count = refl; sink = refl; enter = λ e. refl; leave = refl }
-free_kind (func.Map a) h = record { copy = refl; count = refl; sink = refl; enter = λ e. refl; leave = refl }
-free_kind (func.Enrich a) h = record { copy = refl; count = refl; sink = refl; enter = λ e. refl; leave = refl }
-free_kind (func.Split a) h = record { copy = refl; count = refl; sink = refl; enter = λ e. refl; leave = refl }
-free_kind _ h = absurd (cc)
-
--- so at a node that one edge leaves two such functions go with each other
-free_ports : (edges : List Edge) (node : ℕ) (f g : Func) → IsFreeKind f → IsFreeKind g → out_count edges node ≡ 1 → are_ports edges node f ≡ true → are_ports edges node g ≡ true
+-- so do two of free kinds, at a node that one edge leaves
+free_ports : (edges : List Edge) (node : ℕ) (f g : Func) → is_free f ≡ true → is_free g ≡ true → out_count edges node ≡ 1 → are_ports edges node f ≡ true → are_ports edges node g ≡ true
 unfolding are_ports
 free_ports edges node f g a b one h =
+    let first = (kind_row f).of_free a in
+    let second = (kind_row g).of_free b in
     let kinds = and_parts _ _ h in
     let ports = and_parts _ _ kinds.0 in
     let enter = and_parts _ _ ports.0 in
-    let entered : may_enter g (is_entered edges node) ≡ true = b.enter (is_entered edges node) ∙ (sym (a.enter (is_entered edges node)) ∙ enter.0) in
-    let left : may_leave g (out_count edges node) ≡ true = subst (λ n. may_leave g n ≡ true) (sym one) b.leave in
+    let before : may_enter f (is_entered edges node) ≡ true = enter.0 in
+    let entered : may_enter g (is_entered edges node) ≡ true = rw second.source (rw first.source at before) in
+    let left : may_leave g (out_count edges node) ≡ true = subst (λ n. may_leave g n ≡ true) (sym one) second.leaves_one in
     and_from _ _ (and_from _ _ (and_from _ _ entered left) ports.1) kinds.1
 
 -- a function that may replace another goes with it
@@ -99,13 +85,13 @@ alike_of_replace edges node f g roof h =
       | inr free ↦
           let u = and_parts (is_free f && is_free g) (leaves_once edges node) free in
           let v = and_parts (is_free f) (is_free g) u.0 in
-          let a : IsFreeKind f = free_kind f v.0 in
-          let b : IsFreeKind g = free_kind g v.1 in
+          let a : IsFreeRow (row_at f) = (kind_row f).of_free v.0 in
+          let b : IsFreeRow (row_at g) = (kind_row g).of_free v.1 in
           record {
-            copy = b.copy ∙ sym a.copy;
-            count = b.count ∙ sym a.count;
+            copy = b.copies ∙ sym a.copies;
+            count = b.counts ∙ sym a.counts;
             sink = b.sink ∙ sym a.sink;
-            ports = free_ports edges node f g a b (eqb-true (out_count edges node) 1 u.1);
+            ports = free_ports edges node f g v.0 v.1 (eqb-true (out_count edges node) 1 u.1);
           }
     ]
 
@@ -202,24 +188,6 @@ pub given_roof : (setup : SetupView) (node : ℕ) (def : NodeDef) (f : Func) →
 given_roof setup node def f law kinds g (inl same) = subst (λ (f : Func). fan_out f ≤ def.roof) same (roof_of_node setup.job node def law g).0
 given_roof setup node def f law kinds g (inr (r, change, at, same)) = subst (λ (f : Func). fan_out f ≤ def.roof) same (changed_roof setup r node def change kinds g at)
 
-take_short : {A : Type 0} (n : ℕ) (xs : List A) → length (take n xs) ≤ n
-take_short zero xs = omega arith
-take_short (suc n) [] = omega arith
-take_short (suc n) (x ∷ xs) = omega (arith, take_short n xs)
-
--- so the numbers of the pieces that are made at a node, which go into the births, stay below its roof
-pub pieces_below_roof : (setup : SetupView) (node : ℕ) (def : NodeDef) (split : SplitBy) (visit : Visit) (counts : Counts) (t : Tuple) (k : ℕ) (o : Output)
-    → IsLawful setup.job → KeepKinds setup.job setup.requests → slice_get setup.job.nodes node ≡ Some def → IsGiven setup node def.func (func.Split split)
-    → slice_get (step setup.job visit (func.Split split) counts t).1 k ≡ Some o → k < def.roof
-pieces_below_roof setup node def split visit counts t k o law kinds g given h =
-    let parts = take split.most (pieces split.by (text_at setup.job.columns t.fields split.on)) in
-    let p = map_place (piece_sent setup.job.columns visit split.on t) (enumerate_from 0 parts) k o h in
-    let q = enumerate_get 0 parts k p.0 p.1 in
-    let within : k < length parts = slice_get_within parts k p.0.1 q.1 in
-    let short : length parts ≤ split.most = take_short split.most (pieces split.by (text_at setup.job.columns t.fields split.on)) in
-    let roof : split.most ≤ def.roof = given_roof setup node def (func.Split split) law kinds g given in
-    omega arith
-
 -- a node that is given a split is one of those that may make pieces
 pub splits_given : (setup : SetupView) (node : ℕ) (def : NodeDef) (f : Func) → slice_get setup.job.nodes node ≡ Some def → IsGiven setup node def.func f → is_split f ≡ true
     → splits_at setup.job.nodes setup.requests node ≡ true
@@ -237,27 +205,23 @@ copies_given setup node def f g a s = ap is_replicate_node g ∙ (sym a.copy ∙
 
 -- a function that may make several tuples of one is a split or a replicate
 pub emits_cases : (f : Func) → may_emit f ≡ true → (is_split f ≡ true) ⊎ (is_replicate f ≡ true)
-emits_cases func.Source m = absurd (cc)
-emits_cases (func.Filter conds) m = absurd (cc)
-emits_cases (func.Map steps) m = absurd (cc)
-emits_cases (func.Enrich lookup) m = absurd (cc)
-emits_cases (func.Count count) m = absurd (cc)
-emits_cases (func.Split split) m = inl refl
-emits_cases func.Replicate m = inr refl
-emits_cases (func.Sink listed) m = absurd (cc)
+emits_cases f m = go (row_at f).shape m
+  where
+    go : (s : Shape) → are_several s ≡ true → (are_pieces s ≡ true) ⊎ (are_copies s ≡ true)
+    go shape.Pieces m = inl refl
+    go shape.Copies m = inr refl
+    go _ m = absurd (cc)
 
 -- ---- the births of outputs
 
 -- births only grow
 pub birth_grows : (f : Func) (birth : List ℕ) (k port : ℕ) → (more : List ℕ) × (births_of f birth k port ≡ birth ++ more)
-birth_grows func.Source birth k port = ([], sym (append-nil birth))
-birth_grows (func.Filter conds) birth k port = ([], sym (append-nil birth))
-birth_grows (func.Map steps) birth k port = ([], sym (append-nil birth))
-birth_grows (func.Enrich lookup) birth k port = ([], sym (append-nil birth))
-birth_grows (func.Count count) birth k port = ([], sym (append-nil birth))
-birth_grows (func.Split split) birth k port = (k ∷ [], refl)
-birth_grows func.Replicate birth k port = (port ∷ [], refl)
-birth_grows (func.Sink listed) birth k port = ([], sym (append-nil birth))
+birth_grows f birth k port = go (row_at f).shape
+  where
+    go : (s : Shape) → (more : List ℕ) × (births_as s birth k port ≡ birth ++ more)
+    go shape.Pieces = (k ∷ [], refl)
+    go shape.Copies = (port ∷ [], refl)
+    go _ = ([], sym (append-nil birth))
 
 -- two different births of one tuple: the function may make several, and each adds a number of its own
 pub record ArePieces (f : Func) (birth first second : List ℕ) : Type 0 where
@@ -269,16 +233,12 @@ pub record ArePieces (f : Func) (birth first second : List ℕ) : Type 0 where
   pub differ : one ≢ other
 
 births_differ : (f : Func) (birth : List ℕ) (j k p q : ℕ) → births_of f birth j p ≢ births_of f birth k q → ArePieces f birth (births_of f birth j p) (births_of f birth k q)
-births_differ func.Source birth j k p q d = absurd (d refl)
-births_differ (func.Filter conds) birth j k p q d = absurd (d refl)
-births_differ (func.Map steps) birth j k p q d = absurd (d refl)
-births_differ (func.Enrich lookup) birth j k p q d = absurd (d refl)
-births_differ (func.Count count) birth j k p q d = absurd (d refl)
-births_differ (func.Split split) birth j k p q d =
-    record { emits = refl; one = j; other = k; first_is = refl; second_is = refl; differ = λ e. d (ap (λ n. birth ++ n ∷ []) e) }
-births_differ func.Replicate birth j k p q d =
-    record { emits = refl; one = p; other = q; first_is = refl; second_is = refl; differ = λ e. d (ap (λ n. birth ++ n ∷ []) e) }
-births_differ (func.Sink listed) birth j k p q d = absurd (d refl)
+births_differ f birth j k p q d = go (row_at f).shape refl d
+  where
+    go : (s : Shape) → (row_at f).shape ≡ s → births_as s birth j p ≢ births_as s birth k q → ArePieces f birth (births_as s birth j p) (births_as s birth k q)
+    go shape.Pieces is d = record { emits = ap are_several is; one = j; other = k; first_is = refl; second_is = refl; differ = λ e. d (ap (λ n. birth ++ n ∷ []) e) }
+    go shape.Copies is d = record { emits = ap are_several is; one = p; other = q; first_is = refl; second_is = refl; differ = λ e. d (ap (λ n. birth ++ n ∷ []) e) }
+    go _ is d = absurd (d refl)
 
 -- two outputs for one tuple, at a node whose edges are those of the function's kind
 pub pieces_of : (job : JobView) (visit : Visit) (f : Func) (counts : Counts) (t : Tuple) (j k : ℕ) (a b : Output) → are_ports job.edges visit.node f ≡ true
@@ -292,8 +252,11 @@ pieces_of job visit f counts t j k a b ports g h d =
 
 -- what a replicate sends along one port has one birth
 copies_by_port : (f : Func) (birth : List ℕ) (j k p q : ℕ) → is_replicate f ≡ true → p ≡ q → births_of f birth j p ≡ births_of f birth k q
-copies_by_port func.Replicate birth j k p q r e = ap (λ n. birth ++ n ∷ []) e
-copies_by_port _ birth j k p q r e = absurd (cc)
+copies_by_port f birth j k p q r e = go (row_at f).shape r
+  where
+    go : (s : Shape) → are_copies s ≡ true → births_as s birth j p ≡ births_as s birth k q
+    go shape.Copies r = ap (λ n. birth ++ n ∷ []) e
+    go _ r = absurd (cc)
 
 -- so two copies of one tuple leave by two ports
 pub copies_part : (job : JobView) (visit : Visit) (f : Func) (counts : Counts) (t : Tuple) (j k : ℕ) (a b : Output) → are_ports job.edges visit.node f ≡ true

@@ -2,16 +2,16 @@
 use Rattle.std.proofs.Common.{◌≡◌, ◌∙◌, ◌<◌, ◌≤◌, ◌+◌, ◌++◌, ℕ, zero, suc, List, [], ◌∷◌, inl, inr, refl, sym, ap, ap₂, arith, true, false, Bool, length, map, flat_map, Some, Option, slice_get}
 use Rattle.std.specs.FinMap.{empty}
 use Rattle.std.specs.List.{enumerate_from}
-use Rattle.jobs.specs.Nodes.{is_count}
+use Rattle.jobs.specs.Nodes.{is_count, is_sink}
 use Rattle.jobs.specs.Ports.{are_ports}
 use Rattle.jobs.specs.JobView.{JobView}
 use Rattle.jobs.specs.declared.func.Func.{Func}
-use Rattle.jobs.specs.declared.func.Func.TheVariants as func
 use Rattle.jobs.specs.declared.func.NodeDef.{NodeDef}
 use Rattle.keyed_state.specs.Counts.{Counts}
 use Rattle.operators.specs.Laws.{bare, bare_tuple, bare_visit as bare_of}
 use Rattle.operators.specs.Meaning.{outputs, step}
 use Rattle.operators.specs.declared.output.Output.{Output}
+use Rattle.operators.proofs.CountLemmas.{outputs_same}
 use Rattle.operators.proofs.EdgeLemmas.{outputs_leave}
 use Rattle.operators.proofs.OutputLemmas.{outputs_bare}
 use Rattle.sink_journal.specs.declared.journal.Entry.TheVariants as entry
@@ -19,7 +19,7 @@ use Rattle.tuple_trace.specs.declared.row.Row.{Row}
 use Rattle.tuple_trace.specs.declared.tuple.Tuple.{Tuple}
 use Rattle.tuple_trace.specs.declared.tuple.Visit.{Visit}
 use Rattle.flow_model.specs.declared.landing.Landing.{Landing}
-use Rattle.flow_model.specs.Alone.{bare_visit, is_sink, landing, lands, onward}
+use Rattle.flow_model.specs.Alone.{bare_visit, landing, lands, onward}
 use Rattle.flow_model.specs.Lanes.{first_on}
 use Rattle.flow_model.specs.OneTable.{HasNoCounts}
 use Rattle.flow_model.specs.Run.{Ran}
@@ -34,23 +34,12 @@ use Rattle.flow_model.proofs.SumLemmas.{sum_over}
 
 -- ---- outputs but for what a flow writes on them
 
--- every function but a count puts out the same whatever the counts are
-pub same_counts : (job : JobView) (visit : Visit) (f : Func) (counts other : Counts) (t : Tuple) → is_count f ≡ false → outputs job visit f counts t ≡ outputs job visit f other t
-same_counts job visit func.Source counts other t e = refl
-same_counts job visit (func.Filter conds) counts other t e = refl
-same_counts job visit (func.Map steps) counts other t e = refl
-same_counts job visit (func.Enrich lookup) counts other t e = refl
-same_counts job visit (func.Count count) counts other t e = absurd (cc)
-same_counts job visit (func.Split split) counts other t e = refl
-same_counts job visit func.Replicate counts other t e = refl
-same_counts job visit (func.Sink listed) counts other t e = refl
-
 -- the outputs for a tuple at a worker are those for one alike at its node, but for what a flow writes on them
 pub outputs_alike : (job : JobView) (visit : Visit) (node : ℕ) (f : Func) (counts : Counts) (t u : Tuple) → visit.node ≡ node → is_count f ≡ false → bare_tuple t ≡ bare_tuple u
     → map bare (step job visit f counts t).1 ≡ map bare (step job (bare_visit node) f empty u).1
 outputs_alike job visit node f counts t u at none same =
     outputs_bare job visit f counts t
-    ∙ (ap (λ (os : List Output). map bare os) (same_counts job (bare_of visit) f counts empty (bare_tuple t) none)
+    ∙ (ap (λ (os : List Output). map bare os) (outputs_same job (bare_of visit) f counts empty (bare_tuple t) none)
     ∙ (ap (λ v. map bare (outputs job (bare_visit v) f empty (bare_tuple t))) at
     ∙ (ap (λ (x : Tuple). map bare (outputs job (bare_visit node) f empty x)) same ∙ sym (outputs_bare job (bare_visit node) f empty u))))
 
@@ -80,19 +69,11 @@ abbrev pub behind : JobView → (ℕ → Option Func) → ℕ → ℕ → Output
 behind job table nodes node output = onward (lands job table nodes) (first_on node output.port (enumerate_from 0 job.edges)) output.tuple
 
 pub lands-sink : (job : JobView) (table : ℕ → Option Func) (nodes node : ℕ) (t : Tuple) (f : Func) → table node ≡ Some f → is_sink f ≡ true → lands job table (suc nodes) node t ≡ landing node t ∷ []
-lands-sink job table nodes node t (func.Sink listed) is sink = rw is refl
-lands-sink job table nodes node t _ is sink = absurd (cc)
+lands-sink job table nodes node t f is sink = rw (is, sink) refl
 
 pub lands-outputs : (job : JobView) (table : ℕ → Option Func) (nodes node : ℕ) (t : Tuple) (f : Func) → table node ≡ Some f → is_sink f ≡ false
     → lands job table (suc nodes) node t ≡ flat_map (behind job table nodes node) (step job (bare_visit node) f empty t).1
-lands-outputs job table nodes node t func.Source is sink = rw is refl
-lands-outputs job table nodes node t (func.Filter conds) is sink = rw is refl
-lands-outputs job table nodes node t (func.Map steps) is sink = rw is refl
-lands-outputs job table nodes node t (func.Enrich lookup) is sink = rw is refl
-lands-outputs job table nodes node t (func.Count count) is sink = rw is refl
-lands-outputs job table nodes node t (func.Split split) is sink = rw is refl
-lands-outputs job table nodes node t func.Replicate is sink = rw is refl
-lands-outputs job table nodes node t (func.Sink listed) is sink = absurd (cc)
+lands-outputs job table nodes node t f is sink = rw (is, sink) refl
 
 -- ---- the functions of a table
 

@@ -3,14 +3,14 @@ use Rattle.std.proofs.Common.{◌≡◌, ◌∙◌, ◌<◌, ◌≤◌, ◌+◌,
 use Rattle.std.specs.FinMap.{empty}
 use Rattle.std.specs.List.{cons_option, enumerate_from}
 use Rattle.std.proofs.lemmas.Option.{same_Some, slice_get_within}
-use Rattle.jobs.specs.Nodes.{AreFromSources}
+use Rattle.jobs.specs.Nodes.{AreFromSources, is_sink}
 use Rattle.jobs.specs.JobView.{JobView}
 use Rattle.jobs.specs.declared.func.Func.{Func}
-use Rattle.jobs.specs.declared.func.Func.TheVariants as func
 use Rattle.jobs.specs.declared.func.NodeDef.{NodeDef}
 use Rattle.operators.specs.Laws.{IsMadeOf, bare, bare_tuple}
-use Rattle.operators.specs.Meaning.{outputs, step}
+use Rattle.operators.specs.Meaning.{step}
 use Rattle.operators.specs.declared.output.Output.{Output}
+use Rattle.operators.proofs.CountLemmas.{sinks_end}
 use Rattle.operators.proofs.OutputLemmas.{outputs_made}
 use Rattle.sink_journal.specs.Alerts.{met}
 use Rattle.sink_journal.specs.declared.journal.Entry.{Entry}
@@ -22,7 +22,7 @@ use Rattle.tuple_trace.specs.declared.tuple.Item.TheVariants as item
 use Rattle.tuple_trace.specs.declared.tuple.Tuple.{Tuple}
 use Rattle.versions.specs.declared.request.Change.{Change}
 use Rattle.flow_model.specs.declared.landing.Landing.{Landing}
-use Rattle.flow_model.specs.Alone.{alone, bare_visit, func_for, func_for_node, is_sink, landing, lands, onward, table}
+use Rattle.flow_model.specs.Alone.{alone, bare_visit, func_for, func_for_node, landing, lands, onward, table}
 use Rattle.flow_model.specs.Feeding.{fed_put, fed_puts, fed_tuple, feed_after, issued_after, issued_at_first, row_numbered}
 use Rattle.flow_model.specs.Lanes.{first_on, lane_of}
 use Rattle.flow_model.specs.OneTable.{HasNoCounts, IsOneTable, landings, landings_by}
@@ -47,19 +47,6 @@ use Rattle.flow_model.proofs.FlowLemmas.{all_puts, entry_weight, flow, lane_to, 
 use Rattle.flow_model.proofs.PutFitLemmas.{AtWork, at_work, feeder_fits, out_goes, row_goes, worker_fits}
 use Rattle.flow_model.proofs.LandingLemmas.{AreTables, HasFunc, behind, has_func, lands-outputs, lands-sink, lands_same, outputs_alike, sum_alike}
 use Rattle.flow_model.proofs.TableLemmas.{by_table}
-
-sinks_make_none : (job : JobView) (who : Worker) (view : StateView) (t : Tuple) → is_sink view.func ≡ true → (step job (visit_at who view) view.func view.counts t).1 ≡ []
-sinks_make_none job who view t s = go view.func s
-  where
-    go : (f : Func) → is_sink f ≡ true → outputs job (visit_at who view) f view.counts t ≡ []
-    go func.Source s = refl
-    go (func.Filter conds) s = absurd (cc)
-    go (func.Map steps) s = absurd (cc)
-    go (func.Enrich lookup) s = absurd (cc)
-    go (func.Count count) s = absurd (cc)
-    go (func.Split split) s = absurd (cc)
-    go func.Replicate s = absurd (cc)
-    go (func.Sink listed) s = refl
 
 -- what goes on a lane weighs what its item weighs at the node to which the lane leads
 weight_on : (V : ℕ → Tuple → ℕ) (job : JobView) (sender : Option ℕ) (node port : ℕ) (t u : Tuple) → (k : GoesOn job sender node port t)
@@ -140,7 +127,7 @@ module _ (rows : List Row) (ran : Ran) (g : Running rows ran) (none : HasNoCount
           → sum_over (λ (o : Output). put_weight V ran.setup.job (put_out ran.setup.job (worker_no ran.setup w) o)) (made ran.setup (worker_no ran.setup w) m.view u)
           ≡ cond b 0 (V (worker_no ran.setup w).node u)
       by_kind true s n d =
-          ap (sum_over (λ (o : Output). put_weight V ran.setup.job (put_out ran.setup.job (worker_no ran.setup w) o))) (sinks_make_none ran.setup.job (worker_no ran.setup w) m.view u (a.alike.sink ∙ s))
+          ap (sum_over (λ (o : Output). put_weight V ran.setup.job (put_out ran.setup.job (worker_no ran.setup w) o))) (sinks_end ran.setup.job (visit_at (worker_no ran.setup w) m.view) m.view.func m.view.counts u (a.alike.sink ∙ s))
       by_kind false s zero d = let low = g.connected.below (worker_no ran.setup w).node inside in absurd (omega arith)
       by_kind false s (suc n) d =
           let f : Func = has.func in

@@ -1,6 +1,6 @@
 -- Plans, one more at a time.
 use Rattle.std.proofs.Common.{◌≡◌, ◌⊎◌, ◌<◌, ◌^◌, ◌+◌, ◌++◌, ◌==◌, ◌≤◌, ◌↔◌, ℕ, zero, suc, inl, inr, true, false, Bool, take, List, [], ◌∷◌, length, Option, Some, None, refl, sym, ap, subst, ◌∙◌, arith}
-use Rattle.std.specs.Prelude.{◌||◌, All, nat_le, slice_get, IsTrue, if◌then◌else◌}
+use Rattle.std.specs.Prelude.{◌&&◌, ◌||◌, All, nat_le, slice_get, IsTrue, if◌then◌else◌}
 use Rattle.std.specs.List.{list_any}
 use Rattle.std.proofs.lemmas.Bool.{and_parts, cases_lt, eq-eqb, eqb-true, or_cases, or_left, or_right}
 use Rattle.std.proofs.lemmas.List.{length_push, take-append-le, take_all}
@@ -10,13 +10,14 @@ use Rattle.std.proofs.lemmas.Option.{slice_get_within}
 use Rattle.cover_planner.specs.declared.cover.Plan.{Plan}
 use Rattle.versions.specs.declared.request.Change.{Change}
 use Rattle.versions.specs.declared.request.Request.{Request}
-use Rattle.versions.specs.Judging.{leaves_once, may_replace}
+use Rattle.versions.specs.Judging.{is_like, leaves_once, may_replace}
+use Rattle.versions.proofs.KeptLemmas.{are_like}
 use Rattle.versions.specs.Kept.{KeepKinds, KeepsKind}
 use Rattle.cover_planner.specs.Members.{IsMember}
 use Rattle.flow_dag.specs.Edges.{HasEdge}
-use Rattle.jobs.specs.Nodes.{IsSourceOf, is_free, is_replicate, is_source, is_source_node, is_split}
+use Rattle.jobs.proofs.RoleLemmas.{kind_row}
+use Rattle.jobs.specs.Nodes.{IsSourceOf, fan_out, is_fixed, is_free, is_replicate, is_source, is_source_node, is_split}
 use Rattle.jobs.specs.declared.func.Func.{Func}
-use Rattle.jobs.specs.declared.func.Func.TheVariants as func
 use Rattle.jobs.specs.declared.func.NodeDef.{NodeDef}
 use Rattle.flow_dag.proofs.MaskLemmas.{Has-none}
 use Rattle.flow_dag.specs.Masks.{Has, has}
@@ -26,7 +27,7 @@ use Rattle.versions.specs.Book.{is_named}
 use Rattle.flow_model.specs.SetupView.{SetupView, setup_view_of, splits_of}
 use Rattle.flow_model.proofs.ElementLemmas.{IsIn, any_in, at_of_all, in_any, in_of_place}
 use Rattle.flow_model.proofs.PlaceLemmas.{append_get, get_left}
-use Rattle.flow_model.proofs.WorkerLemmas.{item_at, source_is}
+use Rattle.flow_model.proofs.WorkerLemmas.{item_at}
 use Rattle.flow_model.specs.Planned.{ArePlansFrom, ArePlansOf, IsExactFor, IsPlanOf, IsPlanned, copies_at, extended, is_made_split, is_named_by, is_planned, is_replicate_node, is_split_node, makes_split, may_become_split, names_node, splits_at}
 
 pushed-before : {A : Type 0} (xs : List A) (x : A) (k : ℕ) → k < length xs → slice_get (xs ++ x ∷ []) k ≡ slice_get xs k
@@ -133,7 +134,7 @@ pub no_source_spare : (o : Option NodeDef) → is_source_node o ≡ true → may
 no_source_spare None is may = cc
 no_source_spare (Some def) is may =
     let free = (and_parts (is_free def.func) (nat_le 2 def.roof) may).0 in
-    let no : is_free func.Source ≡ true = subst (λ (g : Func). is_free g ≡ true) (source_is def.func is) free in
+    let no : is_free def.func ≡ false = ((kind_row def.func).of_source is).free in
     absurd (cc)
 
 -- the members of a plan do not depend on how its sets are told
@@ -168,15 +169,21 @@ IsPlanOf-plan job splits copies asked so_far changed ordered requests request pl
 -- ---- no source is a member
 
 no_source_replaced : (node : NodeDef) (f : Func) (roof : ℕ) (once : Bool) → is_source node.func ≡ true → may_replace node.func f roof once ≡ true → ⊥
-no_source_replaced node f roof once is may = let no : may_replace func.Source f roof once ≡ true = subst (λ (g : Func). may_replace g f roof once ≡ true) (source_is node.func is) may in cc
+no_source_replaced node f roof once is may =
+    let row = (kind_row node.func).of_source is in
+    let p = and_parts (is_like node.func f || (is_free node.func && is_free f && once)) (nat_le (fan_out f) roof) may in
+    elim (or_cases (is_like node.func f) (is_free node.func && is_free f && once) p.0) [
+      | inl like ↦ let no : is_fixed node.func ≡ false = (are_like node.func f like).fixed in let yes : is_fixed node.func ≡ true = row.fixed in absurd (cc)
+      | inr free ↦ let no : is_free node.func ≡ false = row.free in let yes : is_free node.func ≡ true = (and_parts (is_free node.func) (is_free f) (and_parts (is_free node.func && is_free f) once free).0).0 in absurd (cc)
+    ]
 
 no_source_split : (o : Option NodeDef) → is_source_node o ≡ true → is_split_node o ≡ true → ⊥
 no_source_split None is split = cc
-no_source_split (Some def) is split = let no : is_split func.Source ≡ true = subst (λ (g : Func). is_split g ≡ true) (source_is def.func is) split in cc
+no_source_split (Some def) is split = let no : is_split def.func ≡ false = ((kind_row def.func).of_source is).pieces in absurd (cc)
 
 no_source_copies : (o : Option NodeDef) → is_source_node o ≡ true → is_replicate_node o ≡ true → ⊥
 no_source_copies None is copies = cc
-no_source_copies (Some def) is copies = let no : is_replicate func.Source ≡ true = subst (λ (g : Func). is_replicate g ≡ true) (source_is def.func is) copies in cc
+no_source_copies (Some def) is copies = let no : is_replicate def.func ≡ false = ((kind_row def.func).of_source is).copies in absurd (cc)
 
 -- a request that keeps the kinds of the job's functions changes no source
 no_source_changed : (job : JobView) (change : Change) (node : ℕ) → change.node ≡ node → KeepsKind job change → IsSourceOf job node → ⊥

@@ -4,16 +4,16 @@ use Rattle.std.proofs.lemmas.Bool.{eq-eqb, eqb-true}
 use Rattle.std.proofs.lemmas.Option.{get_or_from_slice_get, same_Some, slice_get_within}
 use Rattle.std.specs.FinMap.{empty}
 use Rattle.sink_journal.specs.declared.journal.Entry.{Entry}
-use Rattle.jobs.specs.Nodes.{is_source, workers_of, workers_with}
+pub use Rattle.jobs.proofs.EdgeLemmas.{item_at}
+use Rattle.jobs.specs.Nodes.{is_source, workers_of}
 use Rattle.jobs.specs.JobView.{JobView}
 use Rattle.jobs.specs.declared.func.Func.{Func}
-use Rattle.jobs.specs.declared.func.Func.TheVariants as func
 use Rattle.jobs.specs.declared.func.NodeDef.{NodeDef}
 use Rattle.flow_model.specs.SetupView.{SetupView, Worker}
 use Rattle.flow_model.specs.Begin.{view_at}
 use Rattle.flow_model.specs.Replay.{StateView}
 use Rattle.flow_model.specs.Run.{Ran}
-use Rattle.flow_model.specs.Workers.{workers_in, node_workers, workers_from, workers_at_node}
+use Rattle.flow_model.specs.Workers.{nobody, workers_in, node_workers, workers_from, workers_at_node}
 use Rattle.flow_model.proofs.WorkerListLemmas.{get-node_workers, length-node_workers, who_by}
 use Rattle.flow_model.proofs.ElementLemmas.{AreDistinct, IsIn, distinct_by_place, distinct_filter, filter_in, in_filter, place_of_in}
 
@@ -43,32 +43,12 @@ get_append (y ∷ xs) ys zero x h = inl h
 get_append (y ∷ xs) ys (suc q) x h =
     elim (get_append xs ys q x h) [ inl a ↦ inl a | inr b ↦ let e = b.1 in inr (b.0, omega (arith, e), b.2) ]
 
-pub source_is : (f : Func) → is_source f ≡ true → f ≡ func.Source
-source_is func.Source e = refl
-source_is (func.Filter conds) e = absurd (cc)
-source_is (func.Map steps) e = absurd (cc)
-source_is (func.Enrich lookup) e = absurd (cc)
-source_is (func.Count count) e = absurd (cc)
-source_is (func.Split split) e = absurd (cc)
-source_is func.Replicate e = absurd (cc)
-source_is (func.Sink listed) e = absurd (cc)
-
 no_workers : (def : NodeDef) → is_source def.func ≡ true → workers_of def ≡ 0
-no_workers def e = ap (λ (f : Func). workers_with f def.workers) (source_is def.func e)
+no_workers def e = rw e refl
 
 -- every worker but those of a source: as many as the node's definition says
 pub all_workers : (def : NodeDef) → is_source def.func ≡ false → workers_of def ≡ def.workers
-all_workers def e = go def.func def.workers e
-  where
-    go : (f : Func) (n : ℕ) → is_source f ≡ false → workers_with f n ≡ n
-    go func.Source n e = absurd (cc)
-    go (func.Filter conds) n e = refl
-    go (func.Map steps) n e = refl
-    go (func.Enrich lookup) n e = refl
-    go (func.Count count) n e = refl
-    go (func.Split split) n e = refl
-    go func.Replicate n e = refl
-    go (func.Sink listed) n e = refl
+all_workers def e = rw e refl
 
 -- what stands at a place of the workers of these nodes
 pub record StandsAt (number node : ℕ) (nodes : List NodeDef) (k : ℕ) (who : Worker) : Type 0 where
@@ -146,11 +126,8 @@ workers_at_node_in job node who i e = filter_in (λ (who : Worker). who.node == 
 
 -- ---- workers and journals by numbers, where a number that is none's has a worker of nothing and an empty journal
 
-abbrev no_worker : Worker
-no_worker = record { number = 0; node = 0; place = 0; func = func.Source }
-
 unfoldable pub worker_no : SetupView → ℕ → Worker
-worker_no setup w = slice_index_or (workers_in setup.job) w no_worker
+worker_no setup w = slice_index_or (workers_in setup.job) w nobody
 
 unfoldable pub journal_of : Ran → ℕ → List Entry
 journal_of ran w = slice_index_or ran.journals w []
@@ -161,17 +138,11 @@ begun setup w = view_at setup 0 (worker_no setup w) empty
 
 pub who_is : (setup : SetupView) (w : ℕ) (who : Worker) → slice_get (workers_in setup.job) w ≡ Some who → worker_no setup w ≡ who
 unfolding worker_no
-who_is setup w who g = get_or_from_slice_get (workers_in setup.job) w who no_worker g
+who_is setup w who g = get_or_from_slice_get (workers_in setup.job) w who nobody g
 
 pub journal_is : (ran : Ran) (w : ℕ) (journal : List Entry) → slice_get ran.journals w ≡ Some journal → journal_of ran w ≡ journal
 unfolding journal_of
 journal_is ran w journal g = get_or_from_slice_get ran.journals w journal [] g
-
--- the item at a place within the list
-pub item_at : {A : Type 0} (xs : List A) (k : ℕ) → k < length xs → (x : A) × (slice_get xs k ≡ Some x)
-item_at [] k lt = absurd (omega arith)
-item_at (x ∷ xs) zero lt = (x, refl)
-item_at (x ∷ xs) (suc k) lt = item_at xs k (omega arith)
 
 pub who_there : (setup : SetupView) (w : ℕ) → w < length (workers_in setup.job) → slice_get (workers_in setup.job) w ≡ Some (worker_no setup w)
 who_there setup w lt = let r = item_at (workers_in setup.job) w lt in r.1 ∙ ap Some (sym (who_is setup w r.0 r.1))

@@ -1,13 +1,13 @@
 -- What one row makes by itself, and which functions it met.
-use Rattle.std.specs.Prelude.{ℕ, Bool, true, false, zero, suc, List, [], ◌∷◌, length, Option, Some}
+use Rattle.std.specs.Prelude.{ℕ, zero, suc, List, [], ◌∷◌, length, Option, Some}
 use Rattle.std.specs.Prelude.{None, slice_get, if◌then◌else◌}
 use Rattle.std.specs.FinMap.{empty}
 use Rattle.std.specs.List.{enumerate_from, flat_map}
 use Rattle.flow_dag.specs.declared.edge.Edge.{Edge}
 use Rattle.jobs.specs.declared.func.Func.{Func}
-use Rattle.jobs.specs.declared.func.Func.TheVariants as func
 use Rattle.jobs.specs.declared.func.NodeDef.{NodeDef}
 use Rattle.jobs.specs.JobView.{JobView}
+use Rattle.jobs.specs.Nodes.{is_sink}
 use Rattle.operators.specs.Meaning.{step}
 use Rattle.operators.specs.declared.output.Output.{Output}
 use Rattle.tuple_trace.specs.declared.row.Row.{Row}
@@ -18,17 +18,6 @@ use Rattle.flow_model.specs.Lanes.{first_on}
 use Rattle.flow_model.specs.Requests.{change_by, func_with}
 use Rattle.flow_model.specs.Run.{Ran}
 use Rattle.flow_model.specs.Whole.{is_new}
-
--- what comes to a node with this function goes no further, and is an alert
-abbrev pub is_sink : Func → Bool
-is_sink func.Source = false
-is_sink (func.Filter conds) = false
-is_sink (func.Map steps) = false
-is_sink (func.Enrich lookup) = false
-is_sink (func.Count count) = false
-is_sink (func.Split split) = false
-is_sink func.Replicate = false
-is_sink (func.Sink listed) = true
 
 -- what comes to a sink of a tuple
 abbrev pub landing : ℕ → Tuple → Landing
@@ -47,9 +36,9 @@ onward lands (Some edge) tuple = lands edge.1.to tuple
 -- behind
 abbrev pub lands_by : JobView → (ℕ → Tuple → List Landing) → ℕ → Option Func → Tuple → List Landing
 lands_by job lands node None tuple = []
-lands_by job lands node (Some (func.Sink listed)) tuple = landing node tuple ∷ []
 lands_by job lands node (Some func) tuple =
-    flat_map (λ (output : Output). onward lands
+    if is_sink func then landing node tuple ∷ []
+    else flat_map (λ (output : Output). onward lands
     (first_on node output.port (enumerate_from 0 job.edges)) output.tuple) (
     step job (bare_visit node) func empty tuple).1
 

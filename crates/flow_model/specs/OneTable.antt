@@ -1,14 +1,14 @@
 -- What came to the sinks of a run, against what its rows make by themselves.
 use Rattle.std.specs.Prelude.{◌≡◌, Bool, false, List, [], ◌∷◌, All, map, count_by, if◌then◌else◌}
 use Rattle.std.specs.List.{flat_map}
-use Rattle.jobs.specs.Nodes.{is_count}
+use Rattle.jobs.specs.Nodes.{is_count, is_sink}
 use Rattle.jobs.specs.JobView.{JobView}
 use Rattle.jobs.specs.declared.func.NodeDef.{NodeDef}
 use Rattle.sink_journal.specs.declared.journal.Entry.{Entry}
 use Rattle.tuple_trace.specs.declared.row.Row.{Row}
 use Rattle.flow_model.specs.declared.landing.Landing.{Landing}
 use Rattle.flow_model.specs.SetupView.{Worker}
-use Rattle.flow_model.specs.Alone.{alone, is_sink, landing, table}
+use Rattle.flow_model.specs.Alone.{alone, landing, table}
 use Rattle.flow_model.specs.Run.{Ran}
 use Rattle.flow_model.specs.Whole.{journals_at, met_tuples}
 use Rattle.flow_model.specs.Workers.{workers_in}

@@ -9,7 +9,7 @@ ghost use Rattle.flow_model.specs.WorkerState.{IsTurned, first_state};
 
 use crate::{InForce, Setup, WorkerAt};
 use keyed_state::Keyed;
-use operators::{Func, Outs, apply};
+use operators::{Func, Outs, Visited};
 use std::alloc::Global;
 use tuple_trace::{NoMemory, Tuple, Visit};
 
@@ -88,16 +88,12 @@ impl WorkerState {
             worker: at.index,
             last: self.last,
         };
-        apply(
-            alloc,
-            &setup.job,
-            setup.ports(at.node),
+        let here = Visited {
+            job: &setup.job,
+            ports: setup.ports(at.node),
             visit,
-            func,
-            &mut self.counts,
-            tuple,
-            outs,
-        )
+        };
+        here.apply(alloc, func, &mut self.counts, tuple, outs)
     }
 
     /// Turns for a request at a node: its change of the node, if there is one, comes into force.

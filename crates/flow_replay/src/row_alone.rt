@@ -6,15 +6,14 @@ ghost use Rattle.flow_dag.specs.declared.edge.Edge.{Edge as EdgeIs};
 ghost use Rattle.jobs.specs.Job.{job_view};
 ghost use Rattle.operators.specs.Meaning.{step};
 ghost use Rattle.flow_model.specs.Alone.{alone as alone_of, bare_visit as bare_visit_at};
-ghost use Rattle.flow_model.specs.Alone.{is_sink as is_sink_func, landing as landing_of};
-ghost use Rattle.flow_model.specs.Alone.{lands as lands_over};
+ghost use Rattle.flow_model.specs.Alone.{landing as landing_of, lands as lands_over};
 ghost use Rattle.flow_model.specs.Lanes.{first_on};
 
 use flow_dag::Edge;
 use flow_model::{Landing, Landings};
-use jobs::{Func, Job};
+use jobs::{Func, Job, is_sink};
 use keyed_state::Keyed;
-use operators::{Outs, apply, out_ports};
+use operators::{Outs, Visited, out_ports};
 use std::alloc::Global;
 use tuple_trace::{Items, NoMemory, Row, Tuple, Visit};
 
@@ -98,24 +97,14 @@ impl Graph<'_> {
         let mut counts = Keyed::new(self.alloc);
         let mut outs = Outs::new(self.alloc);
         let ports = out_ports(self.alloc, self.job, node)?;
-        apply(
-            self.alloc,
-            self.job,
-            ports.as_slice(),
+        let here = Visited {
+            job: self.job,
+            ports: ports.as_slice(),
             visit,
-            func,
-            &mut counts,
-            tuple,
-            &mut outs,
-        )?;
+        };
+        here.apply(self.alloc, func, &mut counts, tuple, &mut outs)?;
         Ok(outs)
     }
-}
-
-fn is_sink(func: &Func) -> bool
-    ensures { result ≡ is_sink_func func.now }
-{
-    matches!(func, Func::Sink(_))
 }
 
 fn landing(node: u32, tuple: &Tuple) -> Result<Landing, NoMemory>

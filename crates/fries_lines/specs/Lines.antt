@@ -1,14 +1,14 @@
 -- The lines that the program prints.
 use Rattle.std.specs.Prelude.{◌==◌, ◌+◌, ℕ, Bool, true, false, List, [], ◌∷◌, ◌++◌, codes, count_by}
-use Rattle.std.specs.Prelude.{decimal, drop, filter, is_some, length, map, slice_get, sum_by, take}
+use Rattle.std.specs.Prelude.{decimal, drop, filter, if◌then◌else◌, is_some, length, map}
+use Rattle.std.specs.Prelude.{slice_get, sum_by, take}
 use Rattle.std.specs.List.{enumerate_from, flat_map, join_with_byte, list_any, range_with_len}
 use Rattle.cover_planner.specs.declared.cover.Plan.{Plan}
 use Rattle.flow_dag.specs.Masks.{has}
 use Rattle.flow_dag.specs.declared.edge.Edge.{Edge}
 use Rattle.jobs.specs.declared.func.Func.{Func}
-use Rattle.jobs.specs.declared.func.Func.TheVariants as func
 use Rattle.jobs.specs.declared.func.NodeDef.{NodeDef}
-use Rattle.jobs.specs.Nodes.{worker_count, workers_of}
+use Rattle.jobs.specs.Nodes.{is_sink, worker_count, workers_of}
 use Rattle.jobs.specs.Weights.{weight}
 use Rattle.jobs.specs.JobView.{JobView}
 use Rattle.sink_journal.specs.declared.journal.Entry.{Entry}
@@ -42,8 +42,7 @@ met_count journal = count_by (λ entry. is_some (met entry)) journal
 
 -- how many tuples the journals of a sink met; those of any other node aren't counted
 abbrev pub met_by : Func → List (List Entry) → ℕ
-met_by (func.Sink listed) journals = sum_by met_count journals
-met_by _ journals = 0
+met_by func journals = if is_sink func then sum_by met_count journals else 0
 
 -- how many tuples reached the sinks among these nodes, each of which has as many of the journals as
 -- it has workers

@@ -4,7 +4,7 @@ ghost use Rattle.jobs.specs.Nodes.{worker_count};
 ghost use Rattle.fries_lines.specs.Lines.{alert_count as alert_count_of, met_by as met_by_func};
 ghost use Rattle.fries_lines.specs.Lines.{met_count as met_count_of, row_count as row_count_of};
 
-use jobs::{Func, Job};
+use jobs::{Func, Job, is_sink};
 use sink_journal::{Entry, Feed, Journal};
 use tuple_trace::NoMemory;
 
@@ -38,15 +38,10 @@ pub fn alert_count(job: &Job, journals: &[Journal]) -> Result<usize, NoMemory>
 fn met_by(func: &Func, journals: &[Journal]) -> Result<usize, NoMemory>
     ensures { IfOk result (λ count. count ≡ met_by_func func.now journals.now) }
 {
-    match func {
-        Func::Sink(_) => met_in(journals),
-        Func::Source
-        | Func::Filter(_)
-        | Func::Map(_)
-        | Func::Enrich(_)
-        | Func::Count(_)
-        | Func::Split(_)
-        | Func::Replicate => Ok(0),
+    if is_sink(func) {
+        met_in(journals)
+    } else {
+        Ok(0)
     }
 }
 

@@ -60,7 +60,7 @@ are_ports-apart edges v f ok =
     let kind : Bool = may_enter f (is_entered edges v) && may_leave f (out_count edges v) && has_ports edges v (out_count edges v) in
     not-true (leads_twice edges v) (and_parts kind (not (leads_twice edges v)) ok).1
 
-item_at : {A : Type 0} (xs : List A) (i : ℕ) → i < length xs → (x : A) × (slice_get xs i ≡ Some x)
+pub item_at : {A : Type 0} (xs : List A) (i : ℕ) → i < length xs → (x : A) × (slice_get xs i ≡ Some x)
 item_at [] i lt = absurd (omega arith)
 item_at (x ∷ xs) i lt = (get_or (x ∷ xs) i x, slice_get-get_or (x ∷ xs) i x lt)
 

@@ -8,3 +8,4 @@ pub mod UnlawfulLemmas
 pub mod OneFaultLemmas
 pub mod SettleLemmas
 pub mod RoofLemmas
+pub mod RoleLemmas

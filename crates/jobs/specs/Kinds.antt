@@ -7,6 +7,8 @@ use Rattle.jobs.specs.declared.kind.Followers.{Followers}
 use Rattle.jobs.specs.declared.kind.Followers.TheVariants as followers
 use Rattle.jobs.specs.declared.kind.Kind.{Kind}
 use Rattle.jobs.specs.declared.kind.Kind.TheVariants as kind
+use Rattle.jobs.specs.declared.kind.Role.{Role}
+use Rattle.jobs.specs.declared.kind.Role.TheVariants as role
 use Rattle.jobs.specs.declared.kind.Shape.{Shape}
 use Rattle.jobs.specs.declared.kind.Shape.TheVariants as shape
 use Rattle.tuple_trace.specs.declared.limits.TheConstants.{MAX_NODE_WORKERS}
@@ -15,8 +17,8 @@ use Rattle.tuple_trace.specs.declared.limits.TheConstants.{MAX_NODE_WORKERS}
 pub record KindView : Type 0 where
   pub name : List ℕ
   pub keys : List (List ℕ)
+  pub role : Role
   pub shape : Shape
-  pub entered : Bool
   pub least_outs : ℕ
   pub most_outs : ℕ
   pub most_workers : ℕ
@@ -28,8 +30,8 @@ abbrev pub row_of : Kind → KindView
 row_of kind.Source = record {
   name = codes "source";
   keys = [];
+  role = role.Source;
   shape = shape.Nothing;
-  entered = false;
   least_outs = 1;
   most_outs = 1;
   most_workers = 1;
@@ -39,8 +41,8 @@ row_of kind.Source = record {
 row_of kind.Filter = record {
   name = codes "filter";
   keys = codes "when" ∷ [];
+  role = role.Operator;
   shape = shape.AtMostOne;
-  entered = true;
   least_outs = 1;
   most_outs = 2;
   most_workers = MAX_NODE_WORKERS;
@@ -50,8 +52,8 @@ row_of kind.Filter = record {
 row_of kind.Map = record {
   name = codes "map";
   keys = codes "steps" ∷ [];
+  role = role.Operator;
   shape = shape.AtMostOne;
-  entered = true;
   least_outs = 1;
   most_outs = 1;
   most_workers = MAX_NODE_WORKERS;
@@ -61,8 +63,8 @@ row_of kind.Map = record {
 row_of kind.Enrich = record {
   name = codes "enrich";
   keys = codes "key" ∷ codes "into" ∷ codes "table" ∷ codes "other" ∷ [];
+  role = role.Operator;
   shape = shape.AtMostOne;
-  entered = true;
   least_outs = 1;
   most_outs = 1;
   most_workers = MAX_NODE_WORKERS;
@@ -72,8 +74,8 @@ row_of kind.Enrich = record {
 row_of kind.Count = record {
   name = codes "count";
   keys = codes "key" ∷ codes "add" ∷ codes "into" ∷ [];
+  role = role.Operator;
   shape = shape.AtMostOne;
-  entered = true;
   least_outs = 1;
   most_outs = 1;
   most_workers = MAX_NODE_WORKERS;
@@ -83,8 +85,8 @@ row_of kind.Count = record {
 row_of kind.Split = record {
   name = codes "split";
   keys = codes "on" ∷ codes "by" ∷ codes "most" ∷ [];
+  role = role.Operator;
   shape = shape.Pieces;
-  entered = true;
   least_outs = 1;
   most_outs = 1;
   most_workers = MAX_NODE_WORKERS;
@@ -94,8 +96,8 @@ row_of kind.Split = record {
 row_of kind.Replicate = record {
   name = codes "replicate";
   keys = [];
+  role = role.Operator;
   shape = shape.Copies;
-  entered = true;
   least_outs = 2;
   most_outs = 8;
   most_workers = MAX_NODE_WORKERS;
@@ -105,8 +107,8 @@ row_of kind.Replicate = record {
 row_of kind.Sink = record {
   name = codes "sink";
   keys = codes "columns" ∷ [];
+  role = role.Sink;
   shape = shape.Nothing;
-  entered = true;
   least_outs = 0;
   most_outs = 0;
   most_workers = 1;
@@ -125,20 +127,38 @@ kind_of (func.Split split) = kind.Split
 kind_of func.Replicate = kind.Replicate
 kind_of (func.Sink listed) = kind.Sink
 
+-- the two kinds are one
+abbrev pub is_kind : Kind → Kind → Bool
+is_kind kind.Source kind.Source = true
+is_kind kind.Filter kind.Filter = true
+is_kind kind.Map kind.Map = true
+is_kind kind.Enrich kind.Enrich = true
+is_kind kind.Count kind.Count = true
+is_kind kind.Split kind.Split = true
+is_kind kind.Replicate kind.Replicate = true
+is_kind kind.Sink kind.Sink = true
+is_kind _ _ = false
+
 -- the row of a function's kind
 abbrev pub row_at : Func → KindView
 row_at func = row_of (kind_of func)
 
 -- the column whose texts are the keys that a function counts by, if it counts
 abbrev pub key_of : Func → Option ℕ
-key_of func.Source = None
-key_of (func.Filter conds) = None
-key_of (func.Map steps) = None
-key_of (func.Enrich lookup) = None
 key_of (func.Count count) = Some count.key
-key_of (func.Split split) = None
-key_of func.Replicate = None
-key_of (func.Sink listed) = None
+key_of _ = None
+
+-- rows enter at its nodes
+abbrev pub are_sources : Role → Bool
+are_sources role.Source = true
+are_sources role.Operator = false
+are_sources role.Sink = false
+
+-- what comes to its nodes is an alert
+abbrev pub are_sinks : Role → Bool
+are_sinks role.Source = false
+are_sinks role.Operator = false
+are_sinks role.Sink = true
 
 -- tuples are made of the pieces of one
 abbrev pub are_pieces : Shape → Bool

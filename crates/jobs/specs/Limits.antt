@@ -62,16 +62,13 @@ literal_oversize cond = value_oversize cond.literal
 -- the first size of a function that is outside of its limits: a filter has up to 8 conditions, a
 -- map up to 8 steps, a split makes 1 to 16 pieces, and literals and `other` are short
 abbrev pub oversize : Func → Option Oversize
-oversize func.Source = None
 oversize (func.Filter conds) =
     option_or (outside which.Conditions 0 MAX_CONDITIONS (length conds))
     (first_oversize literal_oversize conds)
 oversize (func.Map steps) = outside which.Steps 0 MAX_STEPS (length steps)
 oversize (func.Enrich lookup) = value_oversize lookup.other
-oversize (func.Count count) = None
 oversize (func.Split split) = outside which.Most 1 MAX_PIECES split.most
-oversize func.Replicate = None
-oversize (func.Sink listed) = None
+oversize _ = None
 
 -- the first size of a node's function that is outside of its limits
 abbrev pub func_oversize : NodeDef → Option Oversize

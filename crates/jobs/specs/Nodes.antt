@@ -1,16 +1,20 @@
 -- The nodes of a job: what the kinds of their functions say of them.
-use Rattle.std.specs.Prelude.{◌+◌, ◌==◌, ◌&&◌, if◌then◌else◌, ℕ, Bool, false, not, nat_le, List, [], ◌∷◌, Option, Some, None, slice_get, All, IsTrue}
+use Rattle.std.specs.Prelude.{◌+◌, ◌==◌, ◌&&◌, if◌then◌else◌, ℕ, Bool, false, nat_le, List, [], ◌∷◌, Option, Some, None, slice_get, All, IsTrue}
 use Rattle.jobs.specs.declared.func.Func.{Func}
 use Rattle.jobs.specs.declared.func.Func.TheVariants as func
 use Rattle.jobs.specs.declared.func.NodeDef.{NodeDef}
-use Rattle.jobs.specs.Kinds.{are_copies, are_free, are_pieces, are_several, are_none, row_at}
+use Rattle.jobs.specs.Kinds.{are_copies, are_free, are_none, are_pieces, are_several, are_sinks, are_sources, row_at}
 use Rattle.jobs.specs.JobView.{JobView}
 use Rattle.tuple_trace.specs.declared.row.Row.{Row}
 use Rattle.jobs.specs.declared.limits.TheConstants.{MAX_PIECES}
 
 -- rows enter at a source
 abbrev pub is_source : Func → Bool
-is_source func = not (row_at func).entered
+is_source func = are_sources (row_at func).role
+
+-- what comes to a node with this function is an alert, and goes no further
+abbrev pub is_sink : Func → Bool
+is_sink func = are_sinks (row_at func).role
 
 -- the function is a count
 abbrev pub is_count : Func → Bool
@@ -38,14 +42,8 @@ is_free func = are_free (row_at func).followers
 
 -- how many tuples the function may send along an edge for one that it gets: `most` for a split
 abbrev pub fan_out : Func → ℕ
-fan_out func.Source = 1
-fan_out (func.Filter conds) = 1
-fan_out (func.Map steps) = 1
-fan_out (func.Enrich lookup) = 1
-fan_out (func.Count count) = 1
 fan_out (func.Split split) = split.most
-fan_out func.Replicate = 1
-fan_out (func.Sink listed) = 1
+fan_out _ = 1
 
 -- the greatest roof of a node with this function that this number of edges leaves: `MAX_PIECES` if
 -- its kind is free, but 1 if two edges leave it, as its kind allows
@@ -73,7 +71,7 @@ most_workers func = (row_at func).most_workers
 
 -- the workers that keep a journal, of a node with this function and this number of workers
 abbrev pub workers_with : Func → ℕ → ℕ
-workers_with func workers = if (row_at func).entered then workers else 0
+workers_with func workers = if is_source func then 0 else workers
 
 -- the workers of a node that keep a journal: the feeder plays a source, so it has none
 abbrev pub workers_of : NodeDef → ℕ

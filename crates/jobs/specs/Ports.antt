@@ -4,6 +4,7 @@ use Rattle.std.specs.List.{list_any}
 use Rattle.flow_dag.specs.declared.edge.Edge.{Edge}
 use Rattle.jobs.specs.declared.func.Func.{Func}
 use Rattle.jobs.specs.Kinds.{row_at}
+use Rattle.jobs.specs.Nodes.{is_source}
 
 -- the edge leaves the node
 abbrev pub leaves : ℕ → Edge → Bool
@@ -43,7 +44,7 @@ may_leave func n = nat_le (row_at func).least_outs n && nat_le n (row_at func).m
 -- a node with this function may be entered, or not: a source is never entered, and every other node
 -- is
 abbrev pub may_enter : Func → Bool → Bool
-may_enter func entered = if (row_at func).entered then entered else not entered
+may_enter func entered = if is_source func then not entered else entered
 
 -- the edges of a node with this function are those of its kind, on the ports from 0 on, each to
 -- another node

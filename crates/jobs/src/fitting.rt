@@ -69,13 +69,7 @@ pub fn fits_table(tables: &[Table], func: &Func) -> bool
 {
     match func {
         Func::Enrich(lookup) => (lookup.table as usize) < tables.len(),
-        Func::Source
-        | Func::Filter(_)
-        | Func::Map(_)
-        | Func::Count(_)
-        | Func::Split(_)
-        | Func::Replicate
-        | Func::Sink(_) => true,
+        _ => true,
     }
 }
 

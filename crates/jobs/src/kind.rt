@@ -18,6 +18,17 @@ pub enum Kind {
     Sink,
 }
 
+/// What a node of a kind does in a flow.
+#[derive(Clone, Copy, Debug, PartialEq, Eq)]
+pub enum Role {
+    /// Rows enter at it, and no edge leads to it. The feeder plays it, so it keeps no journal.
+    Source,
+    /// It makes tuples of the tuples that come to it.
+    Operator,
+    /// What comes to it is an alert, and goes no further.
+    Sink,
+}
+
 /// How many tuples a node of a kind may make of one.
 #[derive(Clone, Copy, Debug, PartialEq, Eq)]
 pub enum Shape {
@@ -50,10 +61,8 @@ pub struct KindRow {
     pub name: &'static str,
     /// The keys of a job file that say what the function is, in the order in which they are read.
     pub keys: &'static [&'static str],
+    pub role: Role,
     pub shape: Shape,
-    /// Whether edges lead to each node of the kind. Rows enter at the nodes of any other kind,
-    /// which the feeder plays: they keep no journal.
-    pub entered: bool,
     /// The fewest edges that may leave a node of the kind.
     pub least_outs: u32,
     /// The most edges that may leave a node of the kind.
@@ -71,8 +80,8 @@ impl Kind {
     pub fn row(self) -> KindRow
         ensures name { result.name.now ≡ (row_of self).name }
         ensures keys { map (λ key. key.now) result.keys.now ≡ (row_of self).keys }
+        ensures role { result.role ≡ (row_of self).role }
         ensures shape { result.shape ≡ (row_of self).shape }
-        ensures entered { result.entered ≡ (row_of self).entered }
         ensures least_outs { result.least_outs ≡ (row_of self).least_outs }
         ensures most_outs { result.most_outs ≡ (row_of self).most_outs }
         ensures most_workers { result.most_workers ≡ (row_of self).most_workers }
@@ -83,8 +92,8 @@ impl Kind {
             Kind::Source => KindRow {
                 name: "source",
                 keys: &[],
+                role: Role::Source,
                 shape: Shape::Nothing,
-                entered: false,
                 least_outs: 1,
                 most_outs: 1,
                 most_workers: 1,
@@ -94,8 +103,8 @@ impl Kind {
             Kind::Filter => KindRow {
                 name: "filter",
                 keys: &["when"],
+                role: Role::Operator,
                 shape: Shape::AtMostOne,
-                entered: true,
                 least_outs: 1,
                 most_outs: 2,
                 most_workers: MAX_NODE_WORKERS,
@@ -105,8 +114,8 @@ impl Kind {
             Kind::Map => KindRow {
                 name: "map",
                 keys: &["steps"],
+                role: Role::Operator,
                 shape: Shape::AtMostOne,
-                entered: true,
                 least_outs: 1,
                 most_outs: 1,
                 most_workers: MAX_NODE_WORKERS,
@@ -116,8 +125,8 @@ impl Kind {
             Kind::Enrich => KindRow {
                 name: "enrich",
                 keys: &["key", "into", "table", "other"],
+                role: Role::Operator,
                 shape: Shape::AtMostOne,
-                entered: true,
                 least_outs: 1,
                 most_outs: 1,
                 most_workers: MAX_NODE_WORKERS,
@@ -127,8 +136,8 @@ impl Kind {
             Kind::Count => KindRow {
                 name: "count",
                 keys: &["key", "add", "into"],
+                role: Role::Operator,
                 shape: Shape::AtMostOne,
-                entered: true,
                 least_outs: 1,
                 most_outs: 1,
                 most_workers: MAX_NODE_WORKERS,
@@ -138,8 +147,8 @@ impl Kind {
             Kind::Split => KindRow {
                 name: "split",
                 keys: &["on", "by", "most"],
+                role: Role::Operator,
                 shape: Shape::Pieces,
-                entered: true,
                 least_outs: 1,
                 most_outs: 1,
                 most_workers: MAX_NODE_WORKERS,
@@ -149,8 +158,8 @@ impl Kind {
             Kind::Replicate => KindRow {
                 name: "replicate",
                 keys: &[],
+                role: Role::Operator,
                 shape: Shape::Copies,
-                entered: true,
                 least_outs: 2,
                 most_outs: 8,
                 most_workers: MAX_NODE_WORKERS,
@@ -160,8 +169,8 @@ impl Kind {
             Kind::Sink => KindRow {
                 name: "sink",
                 keys: &["columns"],
+                role: Role::Sink,
                 shape: Shape::Nothing,
-                entered: true,
                 least_outs: 0,
                 most_outs: 0,
                 most_workers: 1,
@@ -225,12 +234,6 @@ pub fn key_of(func: &Func) -> Option<u32>
 {
     match func {
         Func::Count(count) => Some(count.key),
-        Func::Source
-        | Func::Filter(_)
-        | Func::Map(_)
-        | Func::Enrich(_)
-        | Func::Split(_)
-        | Func::Replicate
-        | Func::Sink(_) => None,
+        _ => None,
     }
 }

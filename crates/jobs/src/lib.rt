@@ -39,7 +39,7 @@ pub use func::{
     Steps, Test,
 };
 pub use job::Job;
-pub use kind::{Followers, Kind, KindRow, Shape, key_of};
+pub use kind::{Followers, Kind, KindRow, Role, Shape, key_of};
 pub use laws::{
     functions_fit, jobs_have_one_fault, names_tell_kinds, refused_is_unlawful, roofs_hold,
     weights_settle,
@@ -48,7 +48,7 @@ pub use limits::{
     MAX_COLUMNS, MAX_CONDITIONS, MAX_ENTRIES, MAX_PIECES, MAX_STEPS, MAX_WEIGHT, MAX_WORKERS,
     TEXT_MAX, outside, size_fault,
 };
-pub use node::{fan_out, is_count, is_fixed, is_free, is_replicate, is_source, is_split};
+pub use node::{fan_out, is_count, is_fixed, is_free, is_replicate, is_sink, is_source, is_split};
 pub use ports::{has_port, out_count};
 pub use queries::{fits, weight, worker_count};
 pub use table::{Table, Tables};

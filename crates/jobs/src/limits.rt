@@ -92,7 +92,7 @@ pub fn size_fault(func: &Func) -> Option<(Which, i64)>
         Func::Map(steps) => outside(Which::Steps, 0, MAX_STEPS as u64, steps.len() as u64),
         Func::Enrich(lookup) => value_fault(&lookup.other),
         Func::Split(split) => outside(Which::Most, 1, u64::from(MAX_PIECES), u64::from(split.most)),
-        Func::Source | Func::Count(_) | Func::Replicate | Func::Sink(_) => None,
+        _ => None,
     }
 }
 

@@ -1,9 +1,9 @@
 // What the kind of a node's function says of it: what is read off the kind's row.
 ghost use Rattle.std.specs.Prelude.{◌≡◌};
-ghost use Rattle.jobs.specs.Nodes.{fan_out, is_count, is_fixed, is_free, is_replicate, is_source};
-ghost use Rattle.jobs.specs.Nodes.{is_split, most_roof, most_workers, workers_of};
+ghost use Rattle.jobs.specs.Nodes.{fan_out, is_count, is_fixed, is_free, is_replicate, is_sink};
+ghost use Rattle.jobs.specs.Nodes.{is_source, is_split, most_roof, most_workers, workers_of};
 
-use crate::{Followers, Func, MAX_PIECES, NodeDef, Shape};
+use crate::{Followers, Func, MAX_PIECES, NodeDef, Role, Shape};
 
 impl NodeDef {
     /// How many workers the node has that keep a journal: none for a source, which the feeder
@@ -11,10 +11,10 @@ impl NodeDef {
     pub fn journal_count(&self) -> u32
         ensures { result ≡ workers_of self.now }
     {
-        if self.func.kind().row().entered {
-            self.workers
-        } else {
+        if is_source(&self.func) {
             0
+        } else {
+            self.workers
         }
     }
 }
@@ -23,7 +23,20 @@ impl NodeDef {
 pub fn is_source(func: &Func) -> bool
     ensures { result ≡ is_source func.now }
 {
-    !func.kind().row().entered
+    match func.kind().row().role {
+        Role::Source => true,
+        Role::Operator | Role::Sink => false,
+    }
+}
+
+/// Whether what comes to a node with this function is an alert. Takes no memory.
+pub fn is_sink(func: &Func) -> bool
+    ensures { result ≡ is_sink func.now }
+{
+    match func.kind().row().role {
+        Role::Sink => true,
+        Role::Source | Role::Operator => false,
+    }
 }
 
 /// Whether a function keeps counts. Takes no memory.
@@ -81,13 +94,7 @@ pub fn fan_out(func: &Func) -> u32
 {
     match func {
         Func::Split(split) => split.most,
-        Func::Source
-        | Func::Filter(_)
-        | Func::Map(_)
-        | Func::Enrich(_)
-        | Func::Count(_)
-        | Func::Replicate
-        | Func::Sink(_) => 1,
+        _ => 1,
     }
 }
 

@@ -5,7 +5,7 @@ ghost use Rattle.jobs.specs.Places.{FindsFailure};
 ghost use Rattle.jobs.specs.Ports.{are_ports, has_edge, has_port, has_ports, is_entered};
 ghost use Rattle.jobs.specs.Ports.{leads_twice, may_enter, may_leave, out_count};
 
-use crate::{Func, NodeDef};
+use crate::{Func, NodeDef, is_source};
 use flow_dag::{Edge, MAX_EDGES, MAX_NODES};
 
 /// The first edge that has an end which is none of the first `count` nodes.
@@ -60,11 +60,7 @@ fn are_all(a: bool, b: bool, c: bool, d: bool) -> bool
 fn may_enter(func: &Func, entered: bool) -> bool
     ensures { result ≡ may_enter func.now entered }
 {
-    if func.kind().row().entered {
-        entered
-    } else {
-        !entered
-    }
+    if is_source(func) { !entered } else { entered }
 }
 
 fn may_leave(func: &Func, outs: u32) -> bool

@@ -2,7 +2,7 @@
 use Rattle.std.proofs.Common.{◌≡◌, ◌∙◌, ◌≢◌, ℕ, ◌+◌, ◌<◌, ◌≤◌, ◌==◌, ◌&&◌, ◌||◌, zero, suc, sym, ap, refl, List, [], ◌∷◌, length, map, filter, cond, Bool, true, false, eqb, Some, inl, inr, arith}
 use Rattle.std.specs.Prelude.{IsTrue, slice_get}
 use Rattle.std.specs.List.{list_any}
-use Rattle.std.proofs.lemmas.Bool.{cases_eq, eq-eqb, eqb-true, leb-true}
+use Rattle.std.proofs.lemmas.Bool.{and_parts, cases_eq, eq-eqb, eqb-true, leb-true, or_left, or_right}
 use Rattle.std.proofs.lemmas.List.{append_cancel_left, length-map}
 use Rattle.std.proofs.lemmas.Map.Steps.{le-length_from_below}
 use Rattle.flow_dag.specs.declared.edge.Edge.{Edge}
@@ -24,21 +24,6 @@ use Rattle.operators.specs.Meaning.{outputs}
 use Rattle.operators.specs.Ports.{out_ports}
 use Rattle.operators.proofs.OutputLemmas.{outputs_made}
 
-and_left : (a b : Bool) → (a && b) ≡ true → a ≡ true
-and_left true b e = refl
-and_left false b e = e
-
-and_right : (a b : Bool) → (a && b) ≡ true → b ≡ true
-and_right true b e = e
-and_right false b e = cc
-
-or_left : (a b : Bool) → a ≡ true → (a || b) ≡ true
-or_left a b e = rw e refl
-
-or_right : (a b : Bool) → b ≡ true → (a || b) ≡ true
-or_right true b e = refl
-or_right false b e = e
-
 -- ports below the number of edges are there
 has_ports-has : (edges : List Edge) (node n ports : ℕ) → has_ports edges node ports ≡ true → n < ports → has_port edges node n ≡ true
 has_ports-has edges node n ports all below = go (has_port edges node n) refl
@@ -49,27 +34,22 @@ has_ports-has edges node n ports all below = go (has_port edges node n) refl
 
 leaves_by_kind : (edges : List Edge) (node : ℕ) (f : Func) → are_ports edges node f ≡ true → may_leave f (out_count edges node) ≡ true
 unfolding are_ports
-leaves_by_kind edges node f all = and_right _ _ (and_left _ _ (and_left _ _ all))
+leaves_by_kind edges node f all = (and_parts _ _ (and_parts _ _ (and_parts _ _ all).0).0).1
 
 ports_by_kind : (edges : List Edge) (node : ℕ) (f : Func) → are_ports edges node f ≡ true → has_ports edges node (out_count edges node) ≡ true
 unfolding are_ports
-ports_by_kind edges node f all = and_right _ _ (and_left _ _ all)
+ports_by_kind edges node f all = (and_parts _ _ (and_parts _ _ all).0).1
 
 -- an edge leaves each node of a kind that may put something out
 least_out : (f : Func) → (row_at f).shape ≢ shape.Nothing → 1 ≤ (row_at f).least_outs
 least_out func.Source puts = absurd (puts refl)
-least_out (func.Filter conds) puts = omega arith
-least_out (func.Map steps) puts = omega arith
-least_out (func.Enrich lookup) puts = omega arith
-least_out (func.Count count) puts = omega arith
-least_out (func.Split split) puts = omega arith
-least_out func.Replicate puts = omega arith
 least_out (func.Sink listed) puts = absurd (puts refl)
+least_out _ puts = omega arith
 
 some_leave : (edges : List Edge) (node : ℕ) (f : Func) → are_ports edges node f ≡ true → (row_at f).shape ≢ shape.Nothing → 0 < out_count edges node
 some_leave edges node f all puts =
     let least : (row_at f).least_outs ≤ out_count edges node =
-    leb-true (row_at f).least_outs (out_count edges node) (and_left _ _ (leaves_by_kind edges node f all)) in
+    leb-true (row_at f).least_outs (out_count edges node) (and_parts _ _ (leaves_by_kind edges node f all)).0 in
     omega (arith, least, least_out f puts)
 
 -- a node with edges has one on port 0

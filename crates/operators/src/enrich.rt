@@ -1,11 +1,12 @@
 // Enriches. Out of memory, `out` is as before.
 ghost use Rattle.std.specs.Prelude.{◌≡◌, ◌++◌, IfOk, OnOk, OnErr, option_copied};
+ghost use Rattle.jobs.specs.Job.{job_view};
 ghost use Rattle.operators.specs.Enrich.{enriched, enriched_fields as fields_enriched};
 ghost use Rattle.operators.specs.Enrich.{looked_up as found_in};
 
 use crate::fields::{copied, text_at, written_at};
 use crate::output::{Output, Outs, remade};
-use jobs::{Column, Lookup, Table};
+use jobs::{Column, Job, Lookup, Table};
 use std::alloc::Global;
 use tuple_trace::{Fields, NoMemory, Tuple, Value, Visit};
 
@@ -16,17 +17,18 @@ use tuple_trace::{Fields, NoMemory, Tuple, Value, Visit};
 /// tuple doesn't have in its kind isn't written.
 pub fn enrich(
     alloc: Global,
-    columns: &[Column],
-    tables: &[Table],
+    job: &Job,
     visit: Visit,
     lookup: &Lookup,
     tuple: &Tuple,
     out: &mut Outs,
 ) -> Result<(), NoMemory>
-    ensures ok { OnOk result (out.new ≡ out.old ++ enriched columns.now tables.now visit lookup.now
+    ensures ok { let job = job_view job.now in
+        OnOk result (out.new ≡ out.old ++ enriched job.columns job.tables visit lookup.now
         tuple.now) }
     ensures err { OnErr result (out.new ≡ out.old) }
 {
+    let (columns, tables) = (job.columns.as_slice(), job.tables.as_slice());
     let fields = enriched_fields(alloc, columns, tables, lookup, &tuple.fields)?;
     let tuple = remade(tuple, visit, tuple.birth.clone()?, fields)?;
     out.push(Output { port: 0, tuple })

@@ -7,7 +7,8 @@
 //! ```
 //! let visit = Visit { node: 1, worker: 0, last: 0 };
 //! let mut outs = Outs::new(alloc);
-//! apply(alloc, &job, &[0], visit, &func, &mut counts, &tuple, &mut outs)?;
+//! let here = Visited { job: &job, ports: &[0], visit };
+//! here.apply(alloc, &func, &mut counts, &tuple, &mut outs)?;
 //! for output in outs.as_slice() {
 //!     send(output.port, &output.tuple);
 //! }
@@ -30,7 +31,7 @@ mod ports;
 mod replicate;
 mod split;
 
-pub use effect::apply;
+pub use effect::Visited;
 pub use jobs::{
     Column, ColumnDefs, ColumnKind, Columns, Cond, Conds, CountBy, Func, Job, LawFault, Lookup,
     NOWHERE, Named, NodeDef, NodeDefs, Op, Operand, SplitBy, Step, Steps, Table, Tables, Test,

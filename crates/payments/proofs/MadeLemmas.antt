@@ -4,7 +4,7 @@ use Rattle.std.proofs.lemmas.List.{append-nil, drop_all, get_or_default}
 use Rattle.std.proofs.lemmas.List.Elements.{All-cons, All-nil}
 use Rattle.std.proofs.lemmas.List.Folds.{Any-from_list_any}
 use Rattle.std.proofs.lemmas.Bool.Decides.{Decides-eqb, nat_tests}
-use Rattle.std.proofs.lemmas.Bool.{cases_eq}
+use Rattle.std.proofs.lemmas.Bool.{and_parts, cases_eq}
 use Rattle.std.proofs.lemmas.Option.{slice_get_cases}
 use Rattle.std.proofs.Math.Nat.{mod-lt}
 use Rattle.std.specs.Prelude.{All, IsTrue, slice_get, ◌&&◌, ◌==◌}
@@ -17,12 +17,12 @@ use Rattle.jobs.specs.declared.column.Column.{Column}
 use Rattle.jobs.specs.declared.column.ColumnKind.{ColumnKind}
 use Rattle.jobs.specs.declared.column.ColumnKind.TheVariants as kind
 use Rattle.jobs.specs.declared.func.Func.{Func}
-use Rattle.jobs.specs.declared.func.Func.TheVariants as func
 use Rattle.jobs.specs.declared.func.NodeDef.{NodeDef}
 use Rattle.jobs.specs.Law.{HasPorts}
 use Rattle.jobs.specs.Limits.{HasShortTexts, IsShort}
 use Rattle.jobs.specs.Nodes.{AreFromSources, IsSourceOf, is_source, is_source_node}
-use Rattle.jobs.specs.Ports.{are_ports, is_entered, may_enter}
+use Rattle.jobs.specs.Ports.{are_ports, is_entered}
+use Rattle.jobs.proofs.RoleLemmas.{other_entered}
 use Rattle.jobs.specs.Weights.{weight}
 use Rattle.jobs.specs.JobView.{JobView}
 use Rattle.payments.specs.Made.{draw_of, field_made, fields_made, made_rows, number_after, number_after_field, number_after_fields, number_after_row, row_made, rows_made_from, sources_from, value_made}
@@ -128,23 +128,9 @@ pub sources_from-end : (nodes : List NodeDef) (i : ℕ) (found : List ℕ) → l
 unfolding sources_from
 sources_from-end nodes i found past = rw (drop_all i nodes past) (append-nil found)
 
-may_enter-other : (f : Func) (entered : Bool) → is_source f ≡ false → may_enter f entered ≡ true → entered ≡ true
-may_enter-other func.Source entered other may = absurd (cc other)
-may_enter-other (func.Filter conds) entered other may = may
-may_enter-other (func.Map steps) entered other may = may
-may_enter-other (func.Enrich lookup) entered other may = may
-may_enter-other (func.Count count) entered other may = may
-may_enter-other (func.Split split) entered other may = may
-may_enter-other func.Replicate entered other may = may
-may_enter-other (func.Sink listed) entered other may = may
-
-both-left : (a b : Bool) → (a && b) ≡ true → a ≡ true
-both-left true b is = refl
-both-left false b is = absurd (cc is)
-
 is_entered-other : (edges : List Edge) (v : ℕ) (f : Func) → are_ports edges v f ≡ true → is_source f ≡ false → is_entered edges v ≡ true
 unfolding are_ports
-is_entered-other edges v f ports other = may_enter-other f (is_entered edges v) other (both-left _ _ (both-left _ _ (both-left _ _ ports)))
+is_entered-other edges v f ports other = other_entered f (is_entered edges v) other (and_parts _ _ (and_parts _ _ (and_parts _ _ ports).0).0).0
 
 -- where no source is found, the first node is none, and none is found behind it
 sources_from-cons : (b : Bool) (place : ℕ) (first : NodeDef) (nodes : List NodeDef) → is_source first.func ≡ b → length (sources_from place (first ∷ nodes)) ≡ 0

@@ -1,5 +1,6 @@
 -- Rows that are read record by record, and where they come from.
 use Rattle.std.proofs.Common.{◌≡◌, ◌+◌, ◌&&◌, ℕ, List, [], ◌∷◌, ◌++◌, Option, None, Some, Bool, true, false, Result, Ok, Err, inl, inr, if◌then◌else◌, refl, sym, ◌∙◌, ap, arith, drop}
+use Rattle.std.proofs.lemmas.Bool.{and_parts}
 use Rattle.std.proofs.lemmas.List.Quantifiers.{position-Some}
 use Rattle.std.proofs.lemmas.List.Elements.{All-cons, All-nil}
 use Rattle.std.proofs.lemmas.Option.{slice_get_cases}
@@ -41,15 +42,11 @@ position-slice_get p (y ∷ ys) i is =
       | inr past ↦ absurd (omega (arith, past.0, inside.0))
     ]
 
-pub both-left : (a b : Bool) → (a && b) ≡ true → a ≡ true
-both-left true b is = refl
-both-left false b is = is
-
 -- what a name finds is a source
 IsSourceOf-named : (job : JobView) (name : List ℕ) (source : ℕ) → source_named job name ≡ Some source → IsSourceOf job source
 IsSourceOf-named job name source is =
     let (node, at, passes) = position-slice_get (is_source_with name) job.nodes source is in
-    rw at (both-left (is_source node.func) _ passes)
+    rw at (and_parts (is_source node.func) _ passes).0
 
 IsSourceOf-row_with : (job : JobView) (row source : ℕ) (fields : Result (List Value) PFault) (made : Row) → IsSourceOf job source → row_with row source fields ≡ Ok made → IsSourceOf job made.source
 IsSourceOf-row_with job row source (Err fault) made is ok = absurd (cc ok)

@@ -1,27 +1,27 @@
 -- What a run leaves to save: the keys of a worker's counts are those that are led to it.
-use Rattle.std.proofs.Common.{Equal, Greater, Less, Ordering, ◌≡◌, ◌∙◌, ◌<◌, ◌+◌, ◌++◌, ◌==◌, ◌&&◌, ◌||◌, ℕ, ℤ, List, [], ◌∷◌, ◌⊎◌, inl, inr, refl, sym, subst, ap, arith, true, false, Bool, length, map, filter, nat_le, Some, None, Option, IsTrue, option_map, slice_get, take, All}
-use Rattle.std.specs.Prelude.{int_le, not}
+use Rattle.std.proofs.Common.{Equal, Greater, Less, Ordering, ◌≡◌, ◌∙◌, ◌<◌, ◌+◌, ◌++◌, ◌==◌, ◌&&◌, ◌||◌, ℕ, ℤ, List, [], ◌∷◌, ◌⊎◌, inl, inr, refl, sym, subst, ap, arith, true, false, Bool, map, filter, nat_le, Some, None, Option, IsTrue, option_map, slice_get, take, All}
+use Rattle.std.specs.Prelude.{int_le}
 use Rattle.std.specs.Cmp.Lexicographic.{nat_list_cmp_total, slice_cmp}
 use Rattle.std.specs.FinMap.{empty, entries, entries-insert, from_entries, insert}
 use Rattle.std.specs.FinMap.Entries.{by_order, put}
 use Rattle.std.specs.List.{enumerate_from}
 use Rattle.std.specs.Ordering.{nat_cmp}
-use Rattle.std.proofs.lemmas.Bool.{and_parts, eq-eqb, eqb-true, or_cases}
+use Rattle.std.proofs.lemmas.Bool.{and_parts, eq-eqb, or_cases}
 use Rattle.std.proofs.lemmas.Option.{same_Some, slice_get-map, slice_get_within}
 use Rattle.flow_dag.specs.declared.edge.Edge.{Edge}
-use Rattle.jobs.specs.Kinds.{key_of, kind_of}
-use Rattle.jobs.specs.Nodes.{fan_out, is_count, is_fixed, is_free, is_source_node, worker_count, workers_of}
+use Rattle.jobs.specs.Kinds.{key_of}
+use Rattle.jobs.specs.Nodes.{fan_out, is_count, is_free, is_source_node, worker_count, workers_of}
 use Rattle.jobs.specs.JobView.{JobView}
 use Rattle.jobs.specs.declared.func.Func.{Func}
-use Rattle.jobs.specs.declared.func.Func.TheVariants as func
 use Rattle.jobs.specs.declared.func.NodeDef.{NodeDef}
-use Rattle.keyed_state.specs.Counts.{Counts, carried, scaled}
+use Rattle.jobs.proofs.RoleLemmas.{kind_row}
+use Rattle.keyed_state.specs.Counts.{Counts, carried, clamp, scaled}
 use Rattle.keyed_state.specs.declared.carry.Carry.{Carry}
 use Rattle.keyed_state.specs.declared.carry.Carry.TheVariants as carry
 use Rattle.operators.specs.Fields.{text_at}
 use Rattle.operators.specs.Lanes.{worker_at, worker_by}
-use Rattle.operators.specs.Meaning.{count_after, counts_after, outputs}
-use Rattle.operators.specs.declared.output.Output.{Output}
+use Rattle.operators.specs.Meaning.{counts_after, outputs}
+use Rattle.operators.proofs.CountLemmas.{counts_cases}
 use Rattle.sink_journal.specs.declared.journal.Entry.{Entry}
 use Rattle.sink_journal.specs.declared.journal.Entry.TheVariants as entry
 use Rattle.tuple_trace.specs.Spread.{spread_of}
@@ -29,8 +29,9 @@ use Rattle.tuple_trace.specs.declared.row.Row.{Row}
 use Rattle.tuple_trace.specs.declared.tuple.Item.{Item}
 use Rattle.tuple_trace.specs.declared.tuple.Item.TheVariants as item
 use Rattle.tuple_trace.specs.declared.tuple.Tuple.{Tuple}
-use Rattle.versions.specs.Judging.{is_key, is_kind, is_like, leaves_once, may_replace}
+use Rattle.versions.specs.Judging.{is_like, leaves_once, may_replace}
 use Rattle.versions.specs.Kept.{KeepKinds, KeepsKind}
+use Rattle.versions.proofs.KeptLemmas.{are_like}
 use Rattle.versions.specs.declared.request.Change.{Change}
 use Rattle.versions.specs.declared.request.Request.{Request}
 use Rattle.flow_model.specs.Begin.{at_first, view_at}
@@ -49,8 +50,8 @@ use Rattle.flow_model.proofs.LaneLemmas.{LaneIn, lane_in}
 use Rattle.flow_model.proofs.MarkerLemmas.{met_on_lane}
 use Rattle.flow_model.proofs.RunLemmas.{HasWorker, Running, duties_of, execution, fed_there, in_fed_puts, sender_of, sent_there, start_of}
 use Rattle.flow_model.proofs.SendingLemmas.{in_items, puts_come}
-use Rattle.flow_model.proofs.StoryLemmas.{entry_in, put_then, sent-story, story}
-use Rattle.flow_model.proofs.WorkerLemmas.{IsWorker, Stands, begun, in_workers_at_node, item_at, journal_is, journal_of, same_who, who_is, who_there, worker_is, worker_no, worker_with}
+use Rattle.flow_model.proofs.StoryLemmas.{put_then, sent-story, story}
+use Rattle.flow_model.proofs.WorkerLemmas.{IsWorker, Stands, begun, in_workers_at_node, item_at, journal_is, journal_of, same_who, who_is, who_there, worker_is, worker_no}
 use Rattle.flow_model.proofs.WorkerListLemmas.{get-node_workers, length-node_workers, who_by, workers_at_node-node}
 use Rattle.savepoint.specs.SaveReading.{is_led_to, place_of_key}
 use Rattle.savepoint.proofs.StateLemmas.{counts-alone, none_there}
@@ -96,38 +97,24 @@ keys_carried P (carry.DropBelow least) counts h =
 
 keys_after : (P : List ℕ → Type 0) (job : JobView) (f : Func) (counts : Counts) (t : Tuple) → ((k : ℕ) → key_of f ≡ Some k → P (text_at job.columns t.fields k)) → KeysAre P counts
     → KeysAre P (counts_after job f counts t)
-keys_after P job func.Source counts t m h = h
-keys_after P job (func.Filter conds) counts t m h = h
-keys_after P job (func.Map steps) counts t m h = h
-keys_after P job (func.Enrich lookup) counts t m h = h
-keys_after P job (func.Count count) counts t m h = keys_insert P counts (text_at job.columns t.fields count.key) (count_after job.columns count counts t) (m count.key refl) h
-keys_after P job (func.Split split) counts t m h = h
-keys_after P job func.Replicate counts t m h = h
-keys_after P job (func.Sink listed) counts t m h = h
+keys_after P job f counts t m h =
+    elim (counts_cases job f counts t) [
+      | inl same ↦ subst (KeysAre P) (sym same) h
+      | inr set ↦ subst (KeysAre P) (sym set.after) (keys_insert P counts (text_at job.columns t.fields set.key) (clamp set.sum) (m set.key set.key_is) h)
+    ]
 
 -- ---- the key of a function
-
-key_is : (a b : Option ℕ) → is_key a b ≡ true → b ≡ a
-key_is None None h = refl
-key_is None (Some b) h = absurd (cc)
-key_is (Some a) None h = absurd (cc)
-key_is (Some a) (Some b) h = ap Some (sym (eqb-true a b h))
-
-not_free : (f : Func) → is_count f ≡ true → is_free f ≡ true → ⊥
-not_free (func.Count a) c h = cc
-not_free _ c h = cc
 
 -- what may replace a count counts by its key
 same_key : (f g : Func) (roof : ℕ) (once : Bool) → is_count f ≡ true → may_replace f g roof once ≡ true → key_of g ≡ key_of f
 same_key f g roof once c h =
     let p = and_parts (is_like f g || (is_free f && is_free g && once)) (nat_le (fan_out g) roof) h in
     elim (or_cases (is_like f g) (is_free f && is_free g && once) p.0) [
-      | inl like ↦ key_is (key_of f) (key_of g) (and_parts (is_kind (kind_of f) (kind_of g)) (is_key (key_of f) (key_of g)) (by_like like)).1
-      | inr free ↦ absurd (not_free f c (and_parts (is_free f) (is_free g) (and_parts (is_free f && is_free g) once free).0).0)
+      | inl like ↦ sym (are_like f g like).key
+      | inr free ↦
+          let no : is_count f ≡ false = ((kind_row f).of_free (and_parts (is_free f) (is_free g) (and_parts (is_free f && is_free g) once free).0).0).counts in
+          absurd (cc)
     ]
-  where
-    by_like : is_like f g ≡ true → (is_kind (kind_of f) (kind_of g) && is_key (key_of f) (key_of g)) ≡ true
-    by_like like = (and_parts (not (is_fixed f)) (is_kind (kind_of f) (kind_of g) && is_key (key_of f) (key_of g)) like).1
 
 changed_key : (setup : SetupView) (r node : ℕ) (def : NodeDef) (change : Change) → KeepKinds setup.job setup.requests → slice_get setup.job.nodes node ≡ Some def → is_count def.func ≡ true
     → change_by setup r node ≡ Some change → key_of change.func ≡ key_of def.func

@@ -1,5 +1,5 @@
 -- A savepoint that is written is read again.
-use Rattle.std.proofs.Common.{FitsSigned, IsTrue, w64, ◌≡◌, ◌∙◌, ◌<◌, ◌≤◌, ◌^◌, ℕ, ℤ, zero, suc, List, [], ◌∷◌, inl, inr, refl, sym, subst, ap, arith, lit≤, true, false, Bool, length, map, nat_eq, nat_lt, Some, None, Ok, All, slice_get, take}
+use Rattle.std.proofs.Common.{FitsSigned, IsTrue, w64, ◌≡◌, ◌∙◌, ◌<◌, ◌≤◌, ◌^◌, ℕ, ℤ, zero, suc, List, [], ◌∷◌, inl, inr, refl, sym, subst, ap, arith, true, false, Bool, length, map, nat_eq, nat_lt, Some, None, Ok, All, slice_get, take}
 use Rattle.std.specs.Prelude.{not}
 use Rattle.std.specs.Cmp.Lexicographic.{pointwise}
 use Rattle.std.specs.FinMap.{entries}
@@ -7,10 +7,9 @@ use Rattle.std.specs.List.{list_any, zip}
 use Rattle.std.proofs.lemmas.Bool.{cases_lt, eq-eqb}
 use Rattle.std.proofs.lemmas.Bool.Decides.{nat_tests}
 use Rattle.jobs.specs.Law.{IsLawful}
+use Rattle.jobs.proofs.RoleLemmas.{kind_row}
 use Rattle.jobs.specs.Nodes.{is_count, most_workers}
 use Rattle.jobs.specs.JobView.{JobView}
-use Rattle.jobs.specs.declared.func.Func.{Func}
-use Rattle.jobs.specs.declared.func.Func.TheVariants as func
 use Rattle.jobs.specs.declared.func.NodeDef.{NodeDef}
 use Rattle.keyed_state.specs.Counts.{Counts}
 use Rattle.flow_model.specs.Begin.{Begin}
@@ -29,20 +28,10 @@ use Rattle.savepoint.proofs.SaveTextLemmas.{all_counts, counts_of, reads-save, r
 
 -- ---- what a lawful job keeps
 
-few_workers : (f : Func) → most_workers f ≤ 64
-few_workers func.Source = lit≤ tt
-few_workers (func.Filter conds) = lit≤ tt
-few_workers (func.Map steps) = lit≤ tt
-few_workers (func.Enrich lookup) = lit≤ tt
-few_workers (func.Count count) = lit≤ tt
-few_workers (func.Split split) = lit≤ tt
-few_workers func.Replicate = lit≤ tt
-few_workers (func.Sink listed) = lit≤ tt
-
 small_place : (job : JobView) → IsLawful job → (who : Worker) → IsWorker job who → who.place < 2 ^ 63
 small_place job is who w =
     let node = at_of_all (λ (node : NodeDef). (1 ≤ node.workers) × (node.workers ≤ most_workers node.func)) w.def job.nodes is.limits.workers (in_of_place w.def job.nodes who.node w.node_is) in
-    omega (arith, w.place, all_workers w.def w.no_source, node.1, few_workers w.def.func)
+    omega (arith, w.place, all_workers w.def w.no_source, node.1, (kind_row w.def.func).few_workers)
 
 distinct_names : (job : JobView) → IsLawful job → HasDistinctNames job
 distinct_names job is i j a b g h e =

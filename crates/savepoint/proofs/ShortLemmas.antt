@@ -162,7 +162,6 @@ short_tuple tuple h = all_of_at IsShort tuple.fields h
 
 pub short_outputs : (job : JobView) (visit : Visit) (f : Func) (counts : Counts) (tuple : Tuple) → All (λ (table : Table). table_oversize table ≡ None) job.tables → oversize f ≡ None → AreShort tuple.fields
     → (o : Output) → IsIn o (outputs job visit f counts tuple) → AreShort o.tuple.fields
-short_outputs job visit func.Source counts tuple limits e h o i = absurd i
 short_outputs job visit (func.Filter conds) counts tuple limits e h o i = go (list_all (meets job.columns tuple.fields) conds) (has_port job.edges visit.node 1) i
   where
     one : (port : ℕ) → IsIn o (sent_out visit port tuple ∷ []) → AreShort o.tuple.fields
@@ -194,7 +193,7 @@ short_outputs job visit (func.Split split) counts tuple limits e h o i =
 short_outputs job visit func.Replicate counts tuple limits e h o i =
     let r = in_map (λ (e : Edge). sent_out visit e.port (born e.port tuple)) o (filter (leaves visit.node) job.edges) i in
     subst (λ (o : Output). AreShort o.tuple.fields) (sym r.2) h
-short_outputs job visit (func.Sink listed) counts tuple limits e h o i = absurd i
+short_outputs job visit _ counts tuple limits e h o i = absurd i
 
 -- ---- a run
 

@@ -6,18 +6,15 @@ use Rattle.std.specs.FinMap.{empty, entries, from_entries, get-empty, get-from_e
 use Rattle.std.specs.Ordering.{nat_cmp}
 use Rattle.std.proofs.lemmas.Option.{slice_get-map, slice_get_within}
 use Rattle.jobs.specs.Nodes.{is_count}
-use Rattle.jobs.specs.JobView.{JobView}
 use Rattle.jobs.specs.declared.func.Func.{Func}
-use Rattle.jobs.specs.declared.func.Func.TheVariants as func
 use Rattle.jobs.specs.declared.func.NodeDef.{NodeDef}
 use Rattle.keyed_state.specs.Counts.{Counts, carried}
 use Rattle.keyed_state.specs.declared.carry.Carry.{Carry}
 use Rattle.keyed_state.specs.declared.carry.Carry.TheVariants as carry
-use Rattle.operators.specs.Meaning.{counts_after}
+use Rattle.operators.proofs.CountLemmas.{counts_kept}
 use Rattle.sink_journal.specs.declared.journal.Entry.{Entry}
 use Rattle.sink_journal.specs.declared.journal.Entry.TheVariants as entry
 use Rattle.tuple_trace.specs.declared.row.Row.{Row}
-use Rattle.tuple_trace.specs.declared.tuple.Tuple.{Tuple}
 use Rattle.versions.specs.Kept.{KeepKinds}
 use Rattle.versions.specs.declared.request.Change.{Change}
 use Rattle.flow_model.specs.Begin.{at_first, view_at}
@@ -48,21 +45,11 @@ carried_none carry.Reset counts e = refl
 carried_none (carry.Scale by over) counts e = rw (none_there counts e) none_made
 carried_none (carry.DropBelow least) counts e = rw (none_there counts e) none_made
 
-counts_none : (job : JobView) (f : Func) (counts : Counts) (t : Tuple) → is_count f ≡ false → counts_after job f counts t ≡ counts
-counts_none job func.Source counts t n = refl
-counts_none job (func.Filter conds) counts t n = refl
-counts_none job (func.Map steps) counts t n = refl
-counts_none job (func.Enrich lookup) counts t n = refl
-counts_none job (func.Count count) counts t n = absurd (cc)
-counts_none job (func.Split split) counts t n = refl
-counts_none job func.Replicate counts t n = refl
-counts_none job (func.Sink listed) counts t n = refl
-
 module _ (setup : SetupView) (kinds : KeepKinds setup.job setup.requests) (who : Worker) (def : NodeDef) (there : slice_get setup.job.nodes who.node ≡ Some def) (none : is_count def.func ≡ false) where
   stay_none : (view : StateView) (journal : List Entry) → AreAlike setup.job.edges who.node def.func view.func → view.counts ≡ empty → (after_all setup who view journal).counts ≡ empty
   stay_none view [] a e = e
   stay_none view (entry.Met l t ∷ more) a e =
-      stay_none (after setup who view (entry.Met l t)) more a (counts_none setup.job view.func view.counts t (a.count ∙ none) ∙ e)
+      stay_none (after setup who view (entry.Met l t)) more a (counts_kept setup.job view.func view.counts t (a.count ∙ none) ∙ e)
   stay_none view (entry.Marked l r ∷ more) a e = stay_none view more a e
   stay_none view (entry.Turned r ∷ more) a e =
       let k = turned (change_by setup r who.node) refl in

@@ -3,14 +3,13 @@ use Rattle.std.proofs.Common.{◌≡◌, ◌∙◌, ◌<◌, ◌≤◌, ◌&&◌
 use Rattle.std.specs.Prelude.{position}
 use Rattle.std.specs.Cmp.Lexicographic.{pointwise}
 use Rattle.std.specs.List.{position_or_len}
-use Rattle.std.proofs.lemmas.Bool.{and_parts, le-leb, le-ltb, lt-ltb, ltb-true}
+use Rattle.std.proofs.lemmas.Bool.{le-leb, le-ltb, lt-ltb, ltb-true}
 use Rattle.std.proofs.lemmas.List.Sums.{position_or_len_is}
 use Rattle.std.proofs.lemmas.Option.{slice_get-get_or}
 use Rattle.jobs.specs.Law.{IsLawful}
+use Rattle.jobs.proofs.RoleLemmas.{kind_row}
 use Rattle.jobs.specs.Nodes.{is_count, most_workers}
 use Rattle.jobs.specs.JobView.{JobView}
-use Rattle.jobs.specs.declared.func.Func.{Func}
-use Rattle.jobs.specs.declared.func.Func.TheVariants as func
 use Rattle.jobs.specs.declared.func.NodeDef.{NodeDef}
 use Rattle.flow_model.specs.SetupView.{Worker}
 use Rattle.flow_model.specs.Workers.{nobody, nth_worker, workers_in}
@@ -62,18 +61,13 @@ led-by job w name place key def n index items lt node_is place_is within items_a
     ∙ (ap (λ k. is_count def.func && (pointwise nat_eq name def.name && (is_place place k && (spread_of key def.workers == k)))) (sym place_is)
     ∙ and_assoc (is_count def.func) (pointwise nat_eq name def.name) (is_place place index && (spread_of key def.workers == index)))))
 
--- a node that counts has 1 to 8 workers
-count_most : (f : Func) → is_count f ≡ true → most_workers f ≡ 8
-count_most (func.Count count) c = refl
-count_most _ c = absurd (cc)
-
+-- a node has 1 to 8 workers
 pub few-workers : (job : JobView) → IsLawful job → (name : List ℕ) (def : NodeDef) (n : ℕ) (items : List NodeDef) → n < length job.nodes → items ≡ job.nodes → def ≡ get_or items n def
     → (is_count def.func && pointwise nat_eq name def.name) ≡ true → (1 ≤ def.workers) × (def.workers ≤ 8)
 few-workers job lawful name def n items within items_are is node =
     let there : IsIn def job.nodes = in_of_place def job.nodes n (node_there job def n items within items_are is) in
     let few = at_of_all (λ (node : NodeDef). (1 ≤ node.workers) × (node.workers ≤ most_workers node.func)) def job.nodes lawful.limits.workers there in
-    let most : most_workers def.func ≡ 8 = count_most def.func (and_parts (is_count def.func) (pointwise nat_eq name def.name) node).0 in
-    (few.0, omega (arith, few.1, most))
+    (few.0, omega (arith, few.1, (kind_row def.func).few_workers))
 
 pub numbered : (job : JobView) (i : ℕ) (who : Worker) → slice_get (workers_in job) i ≡ Some who → who.number ≡ 0 + i
 numbered job i who at = let e = (worker_with job i who at).0 in omega (arith, e)

@@ -14,7 +14,7 @@ ghost use Rattle.savepoint_file.specs.Steps.{takes_key as takes_key_of};
 ghost use Rattle.savepoint_file.specs.Views.{spelled_view};
 
 use flow_model::Setup;
-use jobs::{Func, NodeDef, TEXT_MAX};
+use jobs::{NodeDef, TEXT_MAX, is_count};
 use std::alloc::Global;
 use std::marker::Model;
 use tuple_trace::{Bytes, MAX_NODE_WORKERS, NoMemory, spread};
@@ -116,13 +116,7 @@ fn takes_key(setup: &Setup, worker: u32, name: &[u8], place: i64, key: &[u8]) ->
 fn is_node(node: &NodeDef, name: &[u8]) -> bool
     ensures { result ≡ (is_count node.now.func && pointwise nat_eq name.now node.now.name) }
 {
-    counts(&node.func) && name == node.name.as_slice()
-}
-
-fn counts(func: &Func) -> bool
-    ensures { result ≡ is_count func.now }
-{
-    matches!(func, Func::Count(_))
+    is_count(&node.func) && name == node.name.as_slice()
 }
 
 // Whether a worker is the one that is named, and the key is led to its place.

@@ -85,14 +85,8 @@ drop_long (suc n) (x ∷ xs) (y ∷ ys) e = drop_long n xs ys (omega (arith, e))
 
 node_both : (columns : List Column) (f : Func) (name : List ℕ) (xs ys : List (List Entry)) → length xs ≡ length ys
     → IsPermutation (alerts_by f columns name (map joined_journal (zip xs ys))) (alerts_by f columns name xs ++ alerts_by f columns name ys)
-node_both columns func.Source name xs ys e = IsPermutation-refl []
-node_both columns (func.Filter conds) name xs ys e = IsPermutation-refl []
-node_both columns (func.Map steps) name xs ys e = IsPermutation-refl []
-node_both columns (func.Enrich lookup) name xs ys e = IsPermutation-refl []
-node_both columns (func.Count count) name xs ys e = IsPermutation-refl []
-node_both columns (func.Split split) name xs ys e = IsPermutation-refl []
-node_both columns func.Replicate name xs ys e = IsPermutation-refl []
 node_both columns (func.Sink listed) name xs ys e = flat_both (sink_alerts name (layout columns listed)) (shown_both name (layout columns listed)) xs ys e
+node_both columns _ name xs ys e = IsPermutation-refl []
 
 pub alerts_both : (columns : List Column) (nodes : List NodeDef) (xs ys : List (List Entry)) → length xs ≡ length ys
     → IsPermutation (all_alerts columns nodes (map joined_journal (zip xs ys))) (all_alerts columns nodes xs ++ all_alerts columns nodes ys)

@@ -3,7 +3,7 @@
 use Rattle.std.proofs.Common.{◌≡◌, ◌∙◌, ◌==◌, ◌&&◌, ◌||◌, ◌++◌, ℕ, List, [], ◌∷◌, ◌⊎◌, inl, inr}
 use Rattle.std.proofs.Common.{Bool, true, false, not, cond, Option, Some, None, refl, sym, ap}
 use Rattle.std.proofs.Common.{subst, append_assoc}
-use Rattle.std.proofs.lemmas.Bool.{eqb-true}
+use Rattle.std.proofs.lemmas.Bool.{and_parts, eqb-true}
 use Rattle.std.proofs.lemmas.List.{append-nil}
 use Rattle.std.proofs.lemmas.List.Folds.{list_all-append}
 use Rattle.std.proofs.lemmas.Option.{same_Some}
@@ -18,7 +18,6 @@ use Rattle.csv.specs.declared.parser.State.TheVariants as st
 use Rattle.csv.specs.declared.parser.Terminator.TheVariants as term
 use Rattle.input_pieces.specs.Cut.{state_after}
 use Rattle.payments.specs.Reading.{first_cell}
-use Rattle.payments.proofs.RowLemmas.{both-left}
 
 -- ---- a record that has begun is read
 
@@ -228,19 +227,15 @@ plain_in_field c is = go (c == 44) (ends_with term.CRLF c) is
     go false true e = absurd (cc e)
     go false false e = refl
 
-both-right : (a b : Bool) → (a && b) ≡ true → b ≡ true
-both-right true b e = e
-both-right false b e = absurd (cc e)
-
 -- the last byte at hand is plain if the first cell is
 last_plain : (p : List ℕ) (c : ℕ) (q : Read) → Begins (p ++ (c ∷ [])) q
     → list_all is_plain (first_cell q.0) ≡ true → is_plain c ≡ true
 last_plain p c q (more, is) plain =
     let all : list_all is_plain (p ++ (c ∷ [])) ≡ true =
-    both-left (list_all is_plain (p ++ (c ∷ []))) (list_all is_plain more)
-    (sym (ap (list_all is_plain) is ∙ list_all-append is_plain (p ++ (c ∷ [])) more) ∙ plain) in
-    both-left (is_plain c) true (both-right (list_all is_plain p) (list_all is_plain (c ∷ []))
-    (sym (list_all-append is_plain p (c ∷ [])) ∙ all))
+    (and_parts (list_all is_plain (p ++ (c ∷ []))) (list_all is_plain more)
+    (sym (ap (list_all is_plain) is ∙ list_all-append is_plain (p ++ (c ∷ [])) more) ∙ plain)).0 in
+    (and_parts (is_plain c) true (and_parts (list_all is_plain p) (list_all is_plain (c ∷ []))
+    (sym (list_all-append is_plain p (c ∷ [])) ∙ all)).1).0
 
 -- in a quoted cell, or behind its last quote
 abbrev Quoted : State → Type 0

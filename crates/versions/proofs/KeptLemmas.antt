@@ -2,15 +2,17 @@
 use Rattle.std.proofs.Common.{get_or, ◌≡◌, ◌≤◌, ◌+◌, ℕ, Bool, true, false, List, [], ◌∷◌, ◌⊎◌, inl, inr, ◌==◌, length, Option, Some, None, refl, sym, ap, subst, ◌∙◌, arith}
 use Rattle.std.specs.Option.{option_or}
 use Rattle.std.specs.Prelude.{option_map, All, IsTrue, nat_le, nat_lt, not, ◌&&◌, ◌||◌, slice_get, slice_set, if◌then◌else◌}
-use Rattle.std.proofs.lemmas.Bool.{and_from, and_parts, cases_eq, eq-eqb, eqb-true, or_cases, or_left, or_right}
+use Rattle.std.proofs.lemmas.Bool.{and_from, and_parts, cases_eq, eqb-true, not-true, or_cases, or_left, or_right}
 use Rattle.std.proofs.lemmas.Bool.Decides.{nat_tests}
 use Rattle.std.proofs.lemmas.List.{length-map}
 use Rattle.std.proofs.lemmas.Option.{same_Some, slice_get-get_or, slice_get-map, slice_get_within}
 use Rattle.std.proofs.lemmas.List.Elements.{All-cons, All-head, All-tail}
-use Rattle.jobs.specs.Nodes.{fan_out, is_free}
+use Rattle.jobs.proofs.KindLemmas.{one_kind}
+use Rattle.jobs.specs.Kinds.{are_free, is_kind, key_of, kind_of, row_of}
+use Rattle.jobs.specs.Nodes.{fan_out, is_fixed, is_free}
 use Rattle.jobs.specs.JobView.{JobView}
 use Rattle.jobs.specs.declared.func.Func.{Func}
-use Rattle.jobs.specs.declared.func.Func.TheVariants as func
+use Rattle.jobs.specs.declared.kind.Kind.{Kind}
 use Rattle.jobs.specs.declared.func.NodeDef.{NodeDef}
 use Rattle.versions.specs.declared.book.Current.{Current}
 use Rattle.versions.specs.declared.judging.Code.{Code}
@@ -21,7 +23,7 @@ use Rattle.versions.specs.declared.request.Change.{Change}
 use Rattle.versions.specs.declared.request.Request.{Request}
 use Rattle.versions.specs.Book.{accepted, current_version, first_book, with_change}
 use Rattle.versions.specs.Judged.{AreAccepted, accepting, by_fault, judged_from, refusing}
-use Rattle.versions.specs.Judging.{fault_of, first_with, is_empty, is_like, leaves_once, may_replace, may_replace_at, named, roof_at, stale, whole_fault}
+use Rattle.versions.specs.Judging.{fault_of, first_with, is_empty, is_key, is_like, leaves_once, may_replace, may_replace_at, named, roof_at, stale, whole_fault}
 use Rattle.versions.specs.Kept.{AreInOrder, KeepKinds, KeepsKind}
 use Rattle.versions.proofs.BookLemmas.{long_still, other_place}
 use Rattle.versions.proofs.FirstLemmas.{named-none}
@@ -36,24 +38,31 @@ pub record IsKept (job : JobView) (book : List Current) : Type 0 where
   pub long : length book ≡ length job.nodes
   pub stands : (n : ℕ) (current : Current) (node : NodeDef) → slice_get book n ≡ Some current → slice_get job.nodes n ≡ Some node → MayStand job n node current.func
 
-same_key : (a b c : ℕ) → (a == b) ≡ true → (b == c) ≡ true → (a == c) ≡ true
-same_key a b c ab bc = eq-eqb a c (eqb-true a b ab ∙ eqb-true b c bc)
+same_key : (a b : Option ℕ) → is_key a b ≡ true → a ≡ b
+same_key None None e = refl
+same_key (Some a) (Some b) e = ap Some (eqb-true a b e)
+same_key _ _ e = absurd (cc)
+
+-- two functions of one kind have one row and one key, and requests change their kind
+pub record AreLike (a b : Func) : Type 0 where
+  pub kind : kind_of a ≡ kind_of b
+  pub key : key_of a ≡ key_of b
+  pub fixed : is_fixed a ≡ false
+
+pub are_like : (a b : Func) → is_like a b ≡ true → AreLike a b
+are_like a b e =
+    let p = and_parts (not (is_fixed a)) (is_kind (kind_of a) (kind_of b) && is_key (key_of a) (key_of b)) e in
+    let q = and_parts (is_kind (kind_of a) (kind_of b)) (is_key (key_of a) (key_of b)) p.1 in
+    record { kind = one_kind (kind_of a) (kind_of b) q.0; key = same_key (key_of a) (key_of b) q.1; fixed = not-true (is_fixed a) p.0 }
 
 like_on : (a b c : Func) → is_like a b ≡ true → is_like b c ≡ true → is_like a c ≡ true
-like_on (func.Filter a) (func.Filter b) (func.Filter c) ab bc = refl
-like_on (func.Map a) (func.Map b) (func.Map c) ab bc = refl
-like_on (func.Enrich a) (func.Enrich b) (func.Enrich c) ab bc = refl
-like_on (func.Count a) (func.Count b) (func.Count c) ab bc = same_key a.key b.key c.key ab bc
-like_on (func.Split a) (func.Split b) (func.Split c) ab bc = refl
-like_on _ _ _ ab bc = absurd (cc)
+like_on a b c ab bc =
+    let x = are_like a b ab in
+    let q : (is_kind (kind_of b) (kind_of c) && is_key (key_of b) (key_of c)) ≡ true = (and_parts (not (is_fixed b)) (is_kind (kind_of b) (kind_of c) && is_key (key_of b) (key_of c)) bc).1 in
+    rw (x.fixed, x.kind, x.key) q
 
 like_free : (a b : Func) → is_like a b ≡ true → is_free a ≡ is_free b
-like_free (func.Filter a) (func.Filter b) ab = refl
-like_free (func.Map a) (func.Map b) ab = refl
-like_free (func.Enrich a) (func.Enrich b) ab = refl
-like_free (func.Count a) (func.Count b) ab = refl
-like_free (func.Split a) (func.Split b) ab = refl
-like_free _ _ ab = absurd (cc)
+like_free a b ab = ap (λ (k : Kind). are_free (row_of k).followers) (are_like a b ab).kind
 
 -- what may replace a function that may replace another may replace that
 replaces : (a b c : Func) (roof : ℕ) (once : Bool) → may_replace a b roof once ≡ true → may_replace b c roof once ≡ true → may_replace a c roof once ≡ true

@@ -6,14 +6,12 @@ use Rattle.keyed_state.specs.declared.carry.Carry.{Carry}
 use Rattle.keyed_state.specs.declared.carry.Carry.TheVariants as carry
 use Rattle.jobs.specs.Fits.{fits}
 use Rattle.flow_dag.specs.declared.edge.Edge.{Edge}
-use Rattle.jobs.specs.Kinds.{key_of, kind_of}
+use Rattle.jobs.specs.Kinds.{is_kind, key_of, kind_of}
 use Rattle.jobs.specs.Nodes.{fan_out, is_count, is_fixed, is_free, is_split}
 use Rattle.jobs.specs.Ports.{out_count}
 use Rattle.jobs.specs.JobView.{JobView}
 use Rattle.jobs.specs.declared.func.Func.{Func}
 use Rattle.jobs.specs.declared.func.NodeDef.{NodeDef}
-use Rattle.jobs.specs.declared.kind.Kind.{Kind}
-use Rattle.jobs.specs.declared.kind.Kind.TheVariants as kind
 use Rattle.versions.specs.Book.{current_version, is_named}
 use Rattle.versions.specs.declared.book.Current.{Current}
 use Rattle.versions.specs.declared.judging.Code.{Code}
@@ -43,18 +41,6 @@ roof_at (Some node) = node.roof
 -- just one edge leaves the node
 abbrev pub leaves_once : List Edge → ℕ → Bool
 leaves_once edges node = out_count edges node == 1
-
--- the two kinds are one
-abbrev pub is_kind : Kind → Kind → Bool
-is_kind kind.Source kind.Source = true
-is_kind kind.Filter kind.Filter = true
-is_kind kind.Map kind.Map = true
-is_kind kind.Enrich kind.Enrich = true
-is_kind kind.Count kind.Count = true
-is_kind kind.Split kind.Split = true
-is_kind kind.Replicate kind.Replicate = true
-is_kind kind.Sink kind.Sink = true
-is_kind _ _ = false
 
 -- both count by one column, or neither counts
 abbrev pub is_key : Option ℕ → Option ℕ → Bool

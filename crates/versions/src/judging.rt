@@ -2,6 +2,7 @@ ghost use Rattle.std.specs.Prelude.{◌≡◌, ◌≤◌, ◌<◌, [], None, Som
 ghost use Rattle.std.specs.Prelude.{position, slice_get};
 ghost use Rattle.flow_dag.specs.Masks.{has as has_in};
 ghost use Rattle.jobs.specs.Job.{job_view};
+ghost use Rattle.jobs.specs.Kinds.{is_kind as is_kind_of};
 ghost use Rattle.versions.specs.Book.{is_named as is_named_in};
 ghost use Rattle.versions.specs.Judging.{fault_of, first_with as first_with_in};
 ghost use Rattle.versions.specs.Judging.{has_fault as has_fault_in};
@@ -11,7 +12,7 @@ ghost use Rattle.versions.specs.Judging.{is_fixed_at as is_fixed_node};
 ghost use Rattle.versions.specs.Judging.{is_stale_at as is_stale_node};
 ghost use Rattle.versions.specs.Judging.{may_replace as may_replace_func};
 ghost use Rattle.versions.specs.Judging.{may_replace_at as may_replace_current};
-ghost use Rattle.versions.specs.Judging.{is_key as is_key_of, is_kind as is_kind_of};
+ghost use Rattle.versions.specs.Judging.{is_key as is_key_of};
 ghost use Rattle.versions.specs.Judging.{is_late_split as is_late_split_of};
 ghost use Rattle.versions.specs.Judging.{is_like as is_like_func, roof_at as roof_of_node};
 ghost use Rattle.versions.specs.Judging.{late_split as late_split_of};
