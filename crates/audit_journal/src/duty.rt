@@ -1,93 +1,84 @@
 // What the law of journals asks of a worker.
-ghost use Rattle.std.specs.Prelude.{◌≡◌, ◌<◌, ◌↔◌, All, Contains, IfNone, IfSome, IsTrue, length};
+ghost use Rattle.std.specs.Prelude.{◌≡◌, ◌<◌, ◌↔◌, All, Contains, IfNone, IfSome, IsTrue};
 ghost use Rattle.flow_model.specs.Duties.{dues_after};
 ghost use Rattle.flow_model.specs.Lanes.{lanes_in, marked_lanes};
 ghost use Rattle.flow_model.specs.Law.{later_dues};
-ghost use Rattle.flow_model.specs.Setup.{setup_view};
-ghost use Rattle.flow_model.specs.Workers.{nth_worker, workers_in};
+ghost use Rattle.flow_model.specs.SetupWorker.{setup_here, who_here};
 ghost use Rattle.flow_model.specs.declared.topology.Lane.{Lane as LaneIs};
 ghost use Rattle.audit_journal.specs.Course.{IsLaneInto, dues_from};
 
 use crate::marks::Marks;
 use flow_dag::MAX_EDGES;
-use flow_model::{Lane, Setup};
+use flow_model::{Lane, SetupWorker};
 
 /// The first request after this one that covers the worker.
-pub(crate) fn due_after(setup: &Setup, worker: u32, last: u64) -> Option<u64>
-    requires { worker < length (workers_in (setup_view setup.now).job) }
-    ensures { dues_from (setup_view setup.now)
-        (nth_worker (setup_view setup.now).job worker).node result
-        ≡ dues_after (setup_view setup.now) last
-        (nth_worker (setup_view setup.now).job worker).node }
+pub(crate) fn due_after(who: SetupWorker<'_>, last: u64) -> Option<u64>
+    ensures { dues_from (setup_here who.entry) (who_here who.entry).node result
+        ≡ dues_after (setup_here who.entry) last (who_here who.entry).node }
 {
-    match setup.due_after(worker, last) {
+    match who.due_after(last) {
         Some(due) => Some(due.request),
         None => None,
     }
 }
 
 /// The request that the worker turns after this one.
-pub(crate) fn later_due(setup: &Setup, worker: u32, due: Option<u64>) -> Option<u64>
-    requires { worker < length (workers_in (setup_view setup.now).job) }
-    ensures { dues_from (setup_view setup.now)
-        (nth_worker (setup_view setup.now).job worker).node result
-        ≡ later_dues (dues_from (setup_view setup.now)
-        (nth_worker (setup_view setup.now).job worker).node due) }
+pub(crate) fn later_due(who: SetupWorker<'_>, due: Option<u64>) -> Option<u64>
+    ensures { dues_from (setup_here who.entry) (who_here who.entry).node result
+        ≡ later_dues (dues_from (setup_here who.entry) (who_here who.entry).node due) }
 {
     match due {
-        Some(request) => due_after(setup, worker, request),
+        Some(request) => due_after(who, request),
         None => None,
     }
 }
 
 /// Whether the lane is one into the worker.
-pub(crate) fn is_lane_in(setup: &Setup, worker: u32, lane: u32) -> bool
-    requires { worker < length (workers_in (setup_view setup.now).job) }
-    ensures { IsTrue result ↔ Contains (lanes_in (setup_view setup.now).job worker) lane }
+pub(crate) fn is_lane_in(who: SetupWorker<'_>, lane: u32) -> bool
+    ensures { IsTrue result ↔ Contains (lanes_in (setup_here who.entry).job who.entry.number) lane }
 {
-    match lane_into(setup, worker, lane) {
+    match lane_into(who, lane) {
         Some(_) => true,
         None => false,
     }
 }
 
 /// Whether the lane is one that brings the worker the marker of the request.
-pub(crate) fn brings_marker(setup: &Setup, worker: u32, lane: u32, request: u64) -> bool
-    requires { worker < length (workers_in (setup_view setup.now).job) }
-    ensures { IsTrue result ↔ Contains (marked_lanes (setup_view setup.now) worker request) lane }
+pub(crate) fn brings_marker(who: SetupWorker<'_>, lane: u32, request: u64) -> bool
+    ensures { IsTrue result
+        ↔ Contains (marked_lanes (setup_here who.entry) who.entry.number request) lane }
 {
-    match lane_into(setup, worker, lane) {
-        Some(found) => setup.covers_edge(request, found.edge),
+    match lane_into(who, lane) {
+        Some(found) => who.setup.covers_edge(request, found.edge),
         None => false,
     }
 }
 
 // The lane with this number, if it is one into the worker.
-fn lane_into(setup: &Setup, worker: u32, lane: u32) -> Option<Lane>
+fn lane_into(who: SetupWorker<'_>, lane: u32) -> Option<Lane>
     ensures some { IfSome result
-        (λ found. IsLaneInto (setup_view setup.now).job worker lane found) }
+        (λ found. IsLaneInto (setup_here who.entry).job who.entry.number lane found) }
     ensures edge { IfSome result (λ found. found.edge < MAX_EDGES) }
     ensures none { IfNone result ((found : LaneIs) →
-        ¬ IsLaneInto (setup_view setup.now).job worker lane found) }
+        ¬ IsLaneInto (setup_here who.entry).job who.entry.number lane found) }
 {
-    if lane as usize >= setup.topology.lanes.len() {
+    if lane as usize >= who.setup.topology.lanes.len() {
         return None;
     }
-    let found = setup.lane(lane);
-    if found.receiver != worker {
+    let found = who.setup.lane(lane);
+    if found.receiver != who.number {
         return None;
     }
     Some(found)
 }
 
 /// Whether each lane that brings the worker the marker of the request is among these.
-pub(crate) fn has_markers(setup: &Setup, worker: u32, request: u64, marks: &Marks) -> bool
-    requires { worker < length (workers_in (setup_view setup.now).job) }
+pub(crate) fn has_markers(who: SetupWorker<'_>, request: u64, marks: &Marks) -> bool
     ensures { IsTrue result ↔ All (Contains marks.now)
-        (marked_lanes (setup_view setup.now) worker request) }
+        (marked_lanes (setup_here who.entry) who.entry.number request) }
 {
-    for lane in setup.lanes_in(worker) {
-        if brings_marker(setup, worker, *lane, request) && !marks.has(*lane) {
+    for lane in who.lanes_in() {
+        if brings_marker(who, *lane, request) && !marks.has(*lane) {
             return false;
         }
     }

@@ -1,7 +1,8 @@
 // Whether journals are finished by the law of journals.
-ghost use Rattle.std.specs.Prelude.{◌≡◌, ◌<◌, ◌↔◌, IfErr, IfOk, IsTrue, OnOk, length, map};
+ghost use Rattle.std.specs.Prelude.{◌≡◌, ◌↔◌, IfErr, IfOk, IsTrue, OnOk, length};
 ghost use Rattle.flow_model.specs.Setup.{setup_view};
-ghost use Rattle.flow_model.specs.Workers.{nth_worker, workers_in};
+ghost use Rattle.flow_model.specs.SetupWorker.{setup_here, who_here};
+ghost use Rattle.flow_model.specs.Workers.{workers_in};
 ghost use Rattle.audit_laws.specs.Checked.{IsFinishedDraft};
 ghost use Rattle.audit_laws.specs.Faults.{AreTrimmedFinished};
 ghost use Rattle.audit_journal.specs.Course.{IsFaultOfLaw};
@@ -9,7 +10,7 @@ ghost use Rattle.audit_journal.specs.Course.{IsFaultOfLaw};
 use crate::course::Course;
 use audit_fault::AuditFault;
 use audit_laws::AuditEntry;
-use flow_model::{Setup, Start};
+use flow_model::{Setup, SetupWorker, Start};
 use std::alloc::Global;
 use tuple_trace::{Items, NoMemory, Rows};
 
@@ -33,7 +34,11 @@ pub fn check_law(
 {
     for worker in 0..setup.workers() {
         let journal = audit[worker as usize].as_slice();
-        if !is_finished(alloc, setup, start, worker, rows, journal)? {
+        let who = SetupWorker {
+            setup,
+            number: worker,
+        };
+        if !is_finished(alloc, start, who, rows, journal)? {
             return Err(AuditFault::Law(worker));
         }
     }
@@ -43,24 +48,22 @@ pub fn check_law(
 /// Whether the trimmed journal of a worker is finished, from a start on.
 pub fn is_finished(
     alloc: Global,
-    setup: &Setup,
     start: &Start,
-    worker: u32,
+    who: SetupWorker<'_>,
     rows: &Rows,
     journal: &[AuditEntry],
 ) -> Result<bool, NoMemory>
-    requires { worker < length (workers_in (setup_view setup.now).job) }
     ensures { IfOk result (λ finished. IsTrue finished
-        ↔ IsFinishedDraft start.now (setup_view setup.now) rows.now
-        (nth_worker (setup_view setup.now).job worker) journal.now) }
+        ↔ IsFinishedDraft start.now (setup_here who.entry) rows.now
+        (who_here who.entry) journal.now) }
 {
     let count = rows.as_slice().len() as u64;
-    let mut course = Course::new(alloc, setup, start, worker);
+    let mut course = Course::new(alloc, start, who);
     for entry in journal {
-        if !course.admits(setup, start, worker, count, entry) {
+        if !course.admits(start, who, count, entry) {
             return Ok(false);
         }
-        course.enter(setup, worker, entry)?;
+        course.enter(who, entry)?;
     }
-    Ok(course.is_done(setup, worker))
+    Ok(course.is_done(who))
 }

@@ -1,8 +1,9 @@
 // The fifth pass: each journal is restored, worker after worker, in the order of the graph.
-ghost use Rattle.std.specs.Prelude.{◌≡◌, ◌<◌, IfErr, IfOk, OnOk, length};
+ghost use Rattle.std.specs.Prelude.{◌≡◌, IfErr, IfOk, OnOk, length};
 ghost use Rattle.jobs.specs.Nodes.{AreFromSources};
 ghost use Rattle.flow_model.specs.Lanes.{lanes};
 ghost use Rattle.flow_model.specs.Setup.{setup_view};
+ghost use Rattle.flow_model.specs.SetupWorker.{setup_here};
 ghost use Rattle.flow_model.specs.Workers.{workers_in};
 ghost use Rattle.audit_laws.specs.Delivered.{feed_of};
 ghost use Rattle.audit_laws.specs.Faults.{AreTrimmedFinished};
@@ -16,7 +17,7 @@ use crate::standing::Standing;
 use crate::taking::take_all;
 use audit_fault::AuditFault;
 use audit_laws::AuditEntry;
-use flow_model::{Setup, Start};
+use flow_model::{Setup, SetupWorker, Start};
 use flow_replay::{Replayed, replay};
 use keyed_state::Keyed;
 use sink_journal::{Feed, Journal, Journals, States};
@@ -58,8 +59,12 @@ pub(crate) fn restore(
     let order = workers_in_order(alloc, setup)?;
     for worker in order.as_slice() {
         let journal = audit[*worker as usize].as_slice();
-        check_lanes(alloc, setup, *worker, &standing, journal)?;
-        restored.add(alloc, setup, start, *worker, &mut standing, journal)?;
+        let who = SetupWorker {
+            setup,
+            number: *worker,
+        };
+        check_lanes(alloc, who, &standing, journal)?;
+        restored.add(alloc, start, who, &mut standing, journal)?;
     }
     Ok(restored)
 }
@@ -84,28 +89,23 @@ impl Restored {
     fn add(
         &mut self,
         alloc: Global,
-        setup: &Setup,
         start: &Start,
-        worker: u32,
+        who: SetupWorker<'_>,
         standing: &mut Standing,
         journal: &[AuditEntry],
     ) -> Result<(), NoMemory>
-        requires worker { worker < length (workers_in (setup_view setup.now).job) }
-        requires starts { length start.now.states ≡ length (workers_in (setup_view setup.now).job) }
-        requires journals { length self.old.journals
-            ≡ length (workers_in (setup_view setup.now).job) }
-        requires states { length self.old.states
-            ≡ length (workers_in (setup_view setup.now).job) }
-        requires lanes { length standing.old ≡ length (lanes (setup_view setup.now).job) }
-        ensures { OnOk result (TookAndMade start.now (setup_view setup.now)
-            worker journal.now self.old
-            self.new standing.old standing.new) }
+        requires starts { length start.now.states ≡ length (workers_in (setup_here who).job) }
+        requires journals { length self.old.journals ≡ length (workers_in (setup_here who).job) }
+        requires states { length self.old.states ≡ length (workers_in (setup_here who).job) }
+        requires lanes { length standing.old ≡ length (lanes (setup_here who).job) }
+        ensures { OnOk result (TookAndMade start.now (setup_here who.entry) who.entry.number
+            journal.now self.old self.new standing.old standing.new) }
     {
         let journal = take_all(alloc, standing, journal)?;
-        let Replayed { state, sent } = replay(alloc, setup, start, worker, &journal)?;
-        send(setup, worker, standing, sent);
-        self.journals.set(worker as usize, journal);
-        self.states.set(worker as usize, state);
+        let Replayed { state, sent } = replay(alloc, start, who, &journal)?;
+        send(who, standing, sent);
+        self.journals.set(who.number as usize, journal);
+        self.states.set(who.number as usize, state);
         Ok(())
     }
 }

@@ -15,6 +15,7 @@ pub mod Replay
 pub mod InForce
 pub mod WorkerState
 pub mod Dues
+pub mod SetupWorker
 pub mod Begin
 pub mod Feeding
 pub mod Run

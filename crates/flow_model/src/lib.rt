@@ -29,6 +29,7 @@ mod plans;
 mod record;
 mod runs;
 mod setup;
+mod setup_worker;
 mod start;
 mod tables;
 mod topology;
@@ -55,6 +56,7 @@ pub use runs::{
     runs_are_fresh, runs_are_one_table, runs_are_whole, runs_keep_steady, workers_keep_steady,
 };
 pub use setup::{Plans, Setup};
+pub use setup_worker::SetupWorker;
 pub use sink_journal::States;
 pub use start::Start;
 pub use topology::{Lane, LaneNumbers, OutEdge, OutEdges, Topology, WorkerAt};

@@ -14,7 +14,7 @@ ghost use Rattle.flow_replay.specs.inner.Delivery.{IsDelivered, IsFed, rank_in};
 ghost use Rattle.flow_replay.specs.inner.SoFar.{AreIssued, AreIssuedBefore, counts_of, journal_of};
 
 use crate::worker_run::WorkerRun;
-use flow_model::{Setup, States, WorkerAt, WorkerState};
+use flow_model::{Setup, SetupWorker, States, WorkerAt, WorkerState};
 use operators::Outs;
 use sink_journal::{Entry, Feed, Feeds, Journals};
 use std::alloc::Global;
@@ -150,8 +150,12 @@ impl<'a> Executor<'a> {
         ensures same { OnOk result (SameBesideRuns self.old self.new) }
     {
         for worker in 0..self.runs.len() {
+            let who = SetupWorker {
+                setup: self.setup,
+                number: worker as u32,
+            };
             let run = &mut self.runs[worker];
-            run.turn_if_covered(self.setup, worker as u32, request)?;
+            run.turn_if_covered(who, request)?;
         }
         Ok(())
     }
@@ -165,8 +169,12 @@ impl<'a> Executor<'a> {
         ensures same { OnOk result (SameBesideRuns self.old self.new) }
     {
         for worker in 0..self.runs.len() {
+            let who = SetupWorker {
+                setup: self.setup,
+                number: worker as u32,
+            };
             let run = &mut self.runs[worker];
-            run.end(self.setup, worker as u32)?;
+            run.end(who)?;
         }
         Ok(())
     }

@@ -7,7 +7,8 @@
 //! let record = plain_run(alloc, setup, &rows)?;
 //! let journal = &record.journals.as_slice()[0];
 //! let start = Start::first(alloc, &record.setup)?;
-//! let done = replay(alloc, &record.setup, &start, 0, journal)?;
+//! let who = SetupWorker { setup: &record.setup, number: 0 };
+//! let done = replay(alloc, &start, who, journal)?;
 //! assert!(rt; done.sent.len() == record.setup.lanes_out(0).len());
 //! ```
 #![tactic(auto)]

@@ -3,13 +3,14 @@ ghost use Rattle.flow_model.specs.Lanes.{lanes, lanes_out, out_numbers};
 ghost use Rattle.flow_model.specs.Replay.{put_out};
 ghost use Rattle.flow_model.specs.Run.{final_counts};
 ghost use Rattle.flow_model.specs.Setup.{setup_view};
+ghost use Rattle.flow_model.specs.SetupWorker.{setup_here, who_here};
 ghost use Rattle.flow_model.specs.WorkerState.{state_view};
-ghost use Rattle.flow_model.specs.Workers.{nth_worker, workers_in};
+ghost use Rattle.flow_model.specs.Workers.{workers_in};
 ghost use Rattle.flow_replay.specs.Sent.{all_sent, begun_counts, begun_view};
 ghost use Rattle.flow_replay.specs.inner.Replays.{IsBegun, IsEntered, item_if, reaches};
 ghost use Rattle.flow_replay.specs.inner.Replays.{with_item, with_markers, with_puts};
 
-use flow_model::{Setup, Start, WorkerState};
+use flow_model::{Setup, SetupWorker, Start, WorkerState};
 use keyed_state::Keyed;
 use operators::Outs;
 use sink_journal::{Entry, Journal};
@@ -36,23 +37,21 @@ pub struct Replayed {
 /// needn't be lawful.
 pub fn replay(
     alloc: Global,
-    setup: &Setup,
     start: &Start,
-    worker: u32,
+    who: SetupWorker<'_>,
     journal: &Journal,
 ) -> Result<Replayed, NoMemory>
-    requires worker { worker < length (workers_in (setup_view setup.now).job) }
-    requires start { length start.now.states ≡ length (workers_in (setup_view setup.now).job) }
-    ensures state { IfOk result (λ done. done.state ≡ final_counts (setup_view setup.now) start.now
-        (nth_worker (setup_view setup.now).job worker) (begun_counts start.now worker)
+    requires { length start.now.states ≡ length (workers_in (setup_here who).job) }
+    ensures state { IfOk result (λ done. done.state ≡ final_counts (setup_here who.entry) start.now
+        (who_here who.entry) (begun_counts start.now who.entry.number)
         journal.now) }
-    ensures sent { IfOk result (λ done. done.sent ≡ all_sent (setup_view setup.now)
-        (nth_worker (setup_view setup.now).job worker)
-        (begun_view (setup_view setup.now) start.now worker) journal.now) }
+    ensures sent { IfOk result (λ done. done.sent ≡ all_sent (setup_here who.entry)
+        (who_here who.entry)
+        (begun_view (setup_here who.entry) start.now who.entry.number) journal.now) }
 {
-    let mut replay = Replaying::new(alloc, setup, start, worker)?;
+    let mut replay = Replaying::new(alloc, start, who)?;
     for entry in journal.as_slice() {
-        replay.enter(setup, worker, entry)?;
+        replay.enter(who, entry)?;
     }
     let Replaying { state, lists, .. } = replay;
     let WorkerState { counts, .. } = state;
@@ -63,18 +62,16 @@ pub fn replay(
 }
 
 // The state of a worker at a start, with a copy of its counts.
-fn begun_state(setup: &Setup, start: &Start, worker: u32) -> Result<WorkerState, NoMemory>
-    requires worker { worker < length (workers_in (setup_view setup.now).job) }
-    requires start { length start.now.states ≡ length (workers_in (setup_view setup.now).job) }
-    ensures { IfOk result (λ state. state_view (setup_view setup.now)
-        (nth_worker (setup_view setup.now).job worker) state
-        ≡ begun_view (setup_view setup.now) start.now worker) }
+fn begun_state(start: &Start, who: SetupWorker<'_>) -> Result<WorkerState, NoMemory>
+    requires { length start.now.states ≡ length (workers_in (setup_here who).job) }
+    ensures { IfOk result (λ state. state_view (setup_here who.entry) (who_here who.entry) state
+        ≡ begun_view (setup_here who.entry) start.now who.entry.number) }
 {
-    let counts = start.states.as_slice()[worker as usize].copy()?;
+    let counts = start.states.as_slice()[who.number as usize].copy()?;
     Ok(WorkerState {
-        func: setup.in_force_after(setup.node_of(worker), start.turned),
+        func: who.setup.in_force_after(who.node(), start.turned),
         counts,
-        last: setup.last_covering(worker, start.turned),
+        last: who.setup.last_covering(who.number, start.turned),
         ended: 0,
     })
 }
@@ -89,52 +86,51 @@ struct Replaying {
 }
 
 impl Replaying {
-    fn new(alloc: Global, setup: &Setup, start: &Start, worker: u32) -> Result<Replaying, NoMemory>
-        requires worker { worker < length (workers_in (setup_view setup.now).job) }
-        requires start { length start.now.states ≡ length (workers_in (setup_view setup.now).job) }
-        ensures { IfOk result (IsBegun (setup_view setup.now) worker
-            (begun_view (setup_view setup.now) start.now worker)) }
+    fn new(alloc: Global, start: &Start, who: SetupWorker<'_>) -> Result<Replaying, NoMemory>
+        requires { length start.now.states ≡ length (workers_in (setup_here who).job) }
+        ensures { IfOk result (IsBegun (setup_here who.entry) who.entry.number
+            (begun_view (setup_here who.entry) start.now who.entry.number)) }
     {
-        let lanes = setup.lanes_out(worker).len();
+        let lanes = who.setup.lanes_out(who.number).len();
         Ok(Replaying {
             alloc,
-            state: begun_state(setup, start, worker)?,
+            state: begun_state(start, who)?,
             lists: empty_lists(alloc, lanes)?,
         })
     }
 
     // Goes on by one entry.
-    fn enter(&mut self, setup: &Setup, worker: u32, entry: &Entry) -> Result<(), NoMemory>
-        requires worker { worker < length (workers_in (setup_view setup.now).job) }
+    fn enter(&mut self, who: SetupWorker<'_>, entry: &Entry) -> Result<(), NoMemory>
         requires long { length self.old.lists.items
-            ≡ length (out_numbers (setup_view setup.now).job worker) }
+            ≡ length (out_numbers (setup_here who).job who.number) }
         requires few { self.old.state.ended < 2 ^ 64 - 1 }
-        ensures { OnOk result (IsEntered (setup_view setup.now)
-            (nth_worker (setup_view setup.now).job worker) entry.now self.old self.new) }
+        ensures { OnOk result (IsEntered (setup_here who.entry)
+            (who_here who.entry) entry.now self.old self.new) }
     {
         let lists = self.lists.as_mut_slice();
         match entry {
             Entry::Met { tuple, .. } => {
-                let at = setup.worker_at(worker);
+                let at = who.setup.worker_at(who.number);
                 let mut outs = Outs::new(self.alloc);
-                self.state.process(self.alloc, setup, at, tuple, &mut outs)?;
-                send(setup, worker, lists, outs)?;
+                self.state
+                    .process(self.alloc, who.setup, at, tuple, &mut outs)?;
+                send(who, lists, outs)?;
                 Ok(())
             }
             Entry::Marked { .. } => Ok(()),
             Entry::Turned { request } => {
-                mark(setup, worker, lists, *request)?;
-                self.state.turn(setup, setup.node_of(worker), *request);
+                mark(who, lists, *request)?;
+                self.state.turn(who.setup, who.node(), *request);
                 Ok(())
             }
             Entry::Ended { .. } => {
                 self.state.end_lane();
-                if self.state.ended == setup.lanes_in(worker).len() as u64 {
+                if self.state.ended == who.lanes_in().len() as u64 {
                     let sending = Sending {
                         onto: Onto::All,
                         item: Item::Last,
                     };
-                    put_on(setup, worker, lists, &sending)?;
+                    put_on(who, lists, &sending)?;
                 }
                 Ok(())
             }
@@ -160,22 +156,16 @@ struct Sending {
 }
 
 // Puts an item on some of the lanes out.
-fn put_on(
-    setup: &Setup,
-    worker: u32,
-    lists: &mut [LaneItems],
-    sending: &Sending,
-) -> Result<(), NoMemory>
-    requires worker { worker < length (workers_in (setup_view setup.now).job) }
-    requires long { length lists.old ≡ length (out_numbers (setup_view setup.now).job worker) }
-    ensures { OnOk result (lists.new ≡ with_item (reaches (setup_view setup.now) sending.now.onto)
-        sending.now.item (out_numbers (setup_view setup.now).job worker) lists.old) }
+fn put_on(who: SetupWorker<'_>, lists: &mut [LaneItems], sending: &Sending) -> Result<(), NoMemory>
+    requires long { length lists.old ≡ length (out_numbers (setup_here who).job who.number) }
+    ensures { OnOk result (lists.new ≡ with_item (reaches (setup_here who.entry) sending.now.onto)
+        sending.now.item (out_numbers (setup_here who.entry).job who.entry.number) lists.old) }
 {
-    for (place, number) in setup.lanes_out(worker).iter().enumerate() {
+    for (place, number) in who.setup.lanes_out(who.number).iter().enumerate() {
         let list = &mut lists[place];
         put_if(
             list,
-            is_reached(setup, sending.onto, *number),
+            is_reached(who.setup, sending.onto, *number),
             &sending.item,
         )?;
     }
@@ -216,23 +206,21 @@ fn copy_of(item: &Item) -> Result<Item, NoMemory>
 }
 
 // Puts the outputs of a worker on its lanes out.
-fn send(setup: &Setup, worker: u32, lists: &mut [LaneItems], outs: Outs) -> Result<(), NoMemory>
-    requires worker { worker < length (workers_in (setup_view setup.now).job) }
-    requires long { length lists.old ≡ length (out_numbers (setup_view setup.now).job worker) }
-    ensures { OnOk result (lists.new ≡ with_puts (lanes_out (setup_view setup.now).job worker)
-        (map (put_out (setup_view setup.now).job
-        (nth_worker (setup_view setup.now).job worker)) outs)
-        lists.old) }
+fn send(who: SetupWorker<'_>, lists: &mut [LaneItems], outs: Outs) -> Result<(), NoMemory>
+    requires long { length lists.old ≡ length (out_numbers (setup_here who).job who.number) }
+    ensures { OnOk result (lists.new
+        ≡ with_puts (lanes_out (setup_here who.entry).job who.entry.number)
+        (map (put_out (setup_here who.entry).job (who_here who.entry)) outs) lists.old) }
 {
-    let at = setup.worker_at(worker);
+    let at = who.setup.worker_at(who.number);
     for output in outs.into_vec() {
-        match setup.route(at, output.port, &output.tuple) {
+        match who.setup.route(at, output.port, &output.tuple) {
             Some(lane) => {
                 let sending = Sending {
                     onto: Onto::Lane(lane),
                     item: Item::Carry(output.tuple),
                 };
-                put_on(setup, worker, lists, &sending)?
+                put_on(who, lists, &sending)?
             }
             None => {}
         }
@@ -241,13 +229,12 @@ fn send(setup: &Setup, worker: u32, lists: &mut [LaneItems], outs: Outs) -> Resu
 }
 
 // Puts the marker of a request on the lanes out that it covers.
-fn mark(setup: &Setup, worker: u32, lists: &mut [LaneItems], request: u64) -> Result<(), NoMemory>
-    requires worker { worker < length (workers_in (setup_view setup.now).job) }
-    requires long { length lists.old ≡ length (out_numbers (setup_view setup.now).job worker) }
-    ensures { OnOk result (lists.new ≡ with_markers (setup_view setup.now) request
-        (out_numbers (setup_view setup.now).job worker) lists.old) }
+fn mark(who: SetupWorker<'_>, lists: &mut [LaneItems], request: u64) -> Result<(), NoMemory>
+    requires long { length lists.old ≡ length (out_numbers (setup_here who).job who.number) }
+    ensures { OnOk result (lists.new ≡ with_markers (setup_here who.entry) request
+        (out_numbers (setup_here who.entry).job who.entry.number) lists.old) }
 {
-    match setup.plan_of(request) {
+    match who.setup.plan_of(request) {
         Some(plan) => {
             let sending = Sending {
                 onto: Onto::Covered(request),
@@ -256,7 +243,7 @@ fn mark(setup: &Setup, worker: u32, lists: &mut [LaneItems], request: u64) -> Re
                     cover: plan.nodes,
                 },
             };
-            put_on(setup, worker, lists, &sending)
+            put_on(who, lists, &sending)
         }
         None => Ok(()),
     }

@@ -3,10 +3,11 @@ ghost use Rattle.flow_model.specs.Setup.{setup_view};
 ghost use Rattle.flow_model.specs.Workers.{workers_in};
 
 use crate::tests::chains::AT_BOTH_ENDS;
-use flow_model::{Setup, Start};
+use flow_model::{Setup, SetupWorker, Start};
 use flow_replay::{Replayed, RunRecord, replay};
 use sink_journal::{Entry, Feed, Journal};
 use std::alloc::Global;
+use std::process::Abort;
 use test_runs::Inputs;
 use test_texts::{AFTER_2, AMOUNT_CHAIN, FOUR_AMOUNTS, TWICE_AFTER_3};
 use tuple_trace::Item;
@@ -79,11 +80,9 @@ fn four_payments(rt: HostRuntime) {
     assert!(rt; are_noted(rt.alloc()));
 }
 
-fn has_feed(alloc: Global, requests: &str, feed: &[Feed]) -> bool {
-    match ran(alloc, requests) {
-        Some(ran) => ran.feeds.as_slice() == feed,
-        None => false,
-    }
+fn check_feed(rt: &(impl AllocGlobal + Abort), requests: &str, feed: &[Feed]) {
+    let ran = ran(rt.alloc(), requests).expect(rt, "a run");
+    assert_eq!(rt; ran.feeds.as_slice(), feed);
 }
 
 #[test]
@@ -97,7 +96,7 @@ fn two_requests_after_one_row(rt: HostRuntime) {
         Feed::Fed(4),
         Feed::Stopped,
     ];
-    assert!(rt; has_feed(rt.alloc(), TWICE_AFTER_3, &feed));
+    check_feed(&rt, TWICE_AFTER_3, &feed);
 }
 
 #[test]
@@ -111,7 +110,7 @@ fn requests_before_the_first_row_and_beyond_the_last(rt: HostRuntime) {
         Feed::Issued(2),
         Feed::Stopped,
     ];
-    assert!(rt; has_feed(rt.alloc(), AT_BOTH_ENDS, &feed));
+    check_feed(&rt, AT_BOTH_ENDS, &feed);
 }
 
 /// An item of a lane: a tuple of a row, the marker of a request, or the last one.
@@ -154,7 +153,11 @@ fn replayed(alloc: Global, setup: &Setup, worker: u32, journal: &Journal) -> Opt
     requires { worker < length (workers_in (setup_view setup.now).job) }
 {
     let start = Start::first(alloc, setup).ok()?;
-    replay(alloc, setup, &start, worker, journal).ok()
+    let who = SetupWorker {
+        setup,
+        number: worker,
+    };
+    replay(alloc, &start, who, journal).ok()
 }
 
 fn big_sends(alloc: Global, ran: &RunRecord, items: &[Sent]) -> bool {

@@ -5,8 +5,8 @@ use Rattle.audit_journal.proofs.duty.brings_marker.Goals as goal
 
 pub returns-in-Some : goal.returns-in-Some
 returns-in-Some c =
-    let setup = setup_view c.args.setup.now in
-    let w = c.args.worker in
+    let setup = setup_view c.args.who.setup.now in
+    let w = c.args.who.number in
     let r = c.args.request in
     let n = c.args.lane in
     let here = c.in-Some.ensures.some in (
@@ -16,7 +16,7 @@ returns-in-Some c =
 
 pub returns-in-None : goal.returns-in-None
 returns-in-None c =
-    let setup = setup_view c.args.setup.now in (
+    let setup = setup_view c.args.who.setup.now in (
       λ f. absurd (cc),
-      λ m. let l = in_marked setup c.args.worker c.args.request c.args.lane m in absurd (c.in-None.ensures.none l.0 (l.1, l.2)),
+      λ m. let l = in_marked setup c.args.who.number c.args.request c.args.lane m in absurd (c.in-None.ensures.none l.0 (l.1, l.2)),
     )

@@ -7,13 +7,13 @@ use Rattle.audit_journal.proofs.duty.has_markers.Goals as goal
 
 pub returns-then-not-has : goal.returns-then-not-has
 returns-then-not-has c =
-    let lanes = marked_lanes (setup_view c.args.setup.now) c.args.worker c.args.request in
+    let lanes = marked_lanes (setup_view c.args.who.setup.now) c.args.who.number c.args.request in
     (λ f. absurd (cc), λ all. c.if-not-has.ensures.1 (at_lane c.args.marks.now lanes _ all (c.if-brings_marker.ensures.0 refl)))
 
 pub loop-lane-preserved : goal.loop-lane-preserved
 loop-lane-preserved c =
-    let setup = setup_view c.args.setup.now in
-    let w = c.args.worker in
+    let setup = setup_view c.args.who.setup.now in
+    let w = c.args.who.number in
     let r = c.args.request in
     let lanes = c.lanes_in-lane-items.result.now in
     let i = c.loop-lane.lane-index in
@@ -24,7 +24,7 @@ loop-lane-preserved c =
 
 pub returns : goal.returns
 returns c = (
-  λ t. marked_there (setup_view c.args.setup.now) c.args.worker c.args.request c.args.marks.now c.lanes_in-lane-items.result.now c.loop-lane.lane-index c.loop-lane.invariant
+  λ t. marked_there (setup_view c.args.who.setup.now) c.args.who.number c.args.request c.args.marks.now c.lanes_in-lane-items.result.now c.loop-lane.lane-index c.loop-lane.invariant
       c.loop-lane-test.false c.lanes_in-lane-items.ensures,
   λ all. refl,
 )

@@ -1,9 +1,9 @@
-use Rattle.std.proofs.Common.{◌≡◌, ◌<◌, ◌≤◌, inl, inr, refl, ap, arith}
+use Rattle.std.proofs.Common.{◌<◌, ◌≤◌, inl, inr, refl, ap, arith}
 use Rattle.std.proofs.lemmas.Bool.{le-leb, leb-true}
 use Rattle.flow_model.specs.Begin.{Begin}
 use Rattle.flow_model.specs.Requests.{afters}
 use Rattle.flow_model.specs.Setup.{setup_view}
-use Rattle.audit_journal.proofs.FedLemmas.{by_row, early, fed_under, issued_outside, too_many}
+use Rattle.audit_journal.proofs.FedLemmas.{by_row, early, issued_outside, too_many}
 use Rattle.audit_journal.proofs.in_time.is_fed_before.Goals.{then-row-start-via-then-row-start, then-row-start-via-else-row-start+then-row-rows}
 use Rattle.audit_journal.proofs.in_time.is_fed_before.Goals as goal
 

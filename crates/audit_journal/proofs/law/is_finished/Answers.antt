@@ -17,9 +17,9 @@ use Rattle.audit_journal.proofs.law.is_finished.Goals as goal
 
 pub returns-then-not-admits : goal.returns-then-not-admits
 returns-then-not-admits c =
-    let setup = setup_view c.args.setup.now in
+    let setup = setup_view c.args.who.setup.now in
     let begin = c.args.start.now in
-    let who = nth_worker setup.job c.args.worker in
+    let who = nth_worker setup.job c.args.who.number in
     let journal = c.args.journal.now in
     let i = c.loop-entry.entry-index in
     let this : AuditEntry = c.entry-item.result in
@@ -32,9 +32,9 @@ returns-then-not-admits c =
 
 pub loop-entry-preserved : goal.loop-entry-preserved
 loop-entry-preserved c =
-    let setup = setup_view c.args.setup.now in
+    let setup = setup_view c.args.who.setup.now in
     let begin = c.args.start.now in
-    let who = nth_worker setup.job c.args.worker in
+    let who = nth_worker setup.job c.args.who.number in
     let feeds = feed_of begin setup c.args.rows.now in
     let journal = c.args.journal.now in
     let i = c.loop-entry.entry-index in
@@ -48,12 +48,12 @@ loop-entry-preserved c =
 
 pub returns : goal.returns
 returns c =
-    let setup = setup_view c.args.setup.now in
+    let setup = setup_view c.args.who.setup.now in
     let begin = c.args.start.now in
-    let who = nth_worker setup.job c.args.worker in
+    let who = nth_worker setup.job c.args.who.number in
     let feeds = feed_of begin setup c.args.rows.now in
     let course = c.loop-entry.course in
     let come = subst (λ (l : List AuditEntry). HasCome (duties setup begin.turned who) begin.turned feeds l (progress_of setup who.node course)) (take_all c.loop-entry.entry-index c.args.journal.now c.loop-entry-test.false) c.loop-entry.invariant in
     let both = is_finished (duties setup begin.turned who) begin.turned feeds c.args.journal.now (progress_of setup who.node course) come in
-    let lanes = done_lanes setup c.args.worker c.requires begin.turned feeds course in
+    let lanes = done_lanes setup c.args.who.number c.args.who.there begin.turned feeds course in
     (λ t. both.0 (lanes.0 (c.is_done.ensures.0 t)), λ law. c.is_done.ensures.1 (lanes.1 (both.1 law)))

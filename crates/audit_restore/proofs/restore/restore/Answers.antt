@@ -32,12 +32,6 @@ returns-in_err-check_lanes-clause-fault c =
     c.loop-worker.restored.journals c.loop-worker.restored.states c.loop-worker.standing c.loop-worker.invariant _ c.in_err-check_lanes.ensures.fault in
     search (rules, fault)
 
-pub add-requires-clause-worker : goal.add-requires-clause-worker
-add-requires-clause-worker c =
-    let setup = setup_view c.args.setup.now in
-    let is = subst (IsOrder setup.job c.args.setup.now.job.dag.order) (sym c.as_slice-worker-items.ensures) c.in_ok-order.ensures in
-    is.within c.loop-worker.worker-index _ (slice_get-get_or c.as_slice-worker-items.result.now c.loop-worker.worker-index 0 c.loop-worker-test.true)
-
 pub loop-worker-preserved : goal.loop-worker-preserved
 loop-worker-preserved c =
     let setup = setup_view c.args.setup.now in

@@ -1,5 +1,5 @@
 use Rattle.std.proofs.Common.{◌≡◌, List, drop, map, take}
-use Rattle.jobs.specs.Job.{job_view}
+use Rattle.flow_model.specs.SetupWorker.{setup_here}
 use Rattle.tuple_trace.specs.declared.tuple.Item.{Item}
 use Rattle.flow_model.specs.declared.topology.Lane.{Lane}
 use Rattle.flow_model.specs.Lanes.{lanes_out}
@@ -11,7 +11,7 @@ abbrev pub invariant-loop-number : goal.invariant-loop-number
 invariant-loop-number l = record {
   long : length l.standing ≡ length l.fn.standing;
   sent :
-      (on : Lane → List Item) → l.fn.sent ≡ map on (lanes_out (job_view l.setup.job) l.worker)
-      → AreSent (job_view l.setup.job) on (take l.number-index l.number-items) l.fn.standing l.standing
-      × (l.lists.items ≡ drop l.number-index (map on (lanes_out (job_view l.setup.job) l.worker)));
+      (on : Lane → List Item) → l.fn.sent ≡ map on (lanes_out (setup_here l.who).job l.who.number)
+      → AreSent (setup_here l.who).job on (take l.number-index l.number-items) l.fn.standing l.standing
+      × (l.lists.items ≡ drop l.number-index (map on (lanes_out (setup_here l.who).job l.who.number)));
 }

@@ -7,7 +7,7 @@ use Rattle.flow_replay.proofs.replaying.put_on.Goals as goal
 
 pub is_reached-requires : goal.is_reached-requires
 is_reached-requires c =
-    number_there (setup_view c.args.setup.now).job c.args.worker c.loop-place.place
+    number_there (setup_view c.args.who.setup.now).job c.args.who.number c.loop-place.place
     c.lanes_out-number-items.result.now c.lanes_out-number-items.ensures c.loop-place-test.true
 
 pub loop-place-preserved : goal.loop-place-preserved
@@ -17,7 +17,7 @@ loop-place-preserved c = record {
       ∙ c.loop-place.invariant.long;
   gained =
       let i = c.loop-place.place in
-      let test = reaches (setup_view c.args.setup.now) c.args.sending.now.onto in
+      let test = reaches (setup_view c.args.who.setup.now) c.args.sending.now.onto in
       let inside : i < length c.loop-place.lists =
       omega (arith, c.loop-place-test.true, c.loop-place.invariant.long) in
       with_item-more test c.args.sending.now.item c.lanes_out-number-items.result.now

@@ -15,10 +15,10 @@ use Rattle.flow_replay.proofs.replaying.replay.Goals as goal
 
 pub loop-entry-init : goal.loop-entry-init
 loop-entry-init c =
-    let setup = setup_view c.args.setup.now in
-    let w = c.args.worker in
+    let setup = setup_view c.args.who.setup.now in
+    let w = c.args.who.number in
     let who = nth_worker setup.job w in
-    let number = (worker_at setup.job w c.requires.worker).0 in
+    let number = (worker_at setup.job w c.args.who.there).0 in
     let view = begun_view setup c.args.start.now w in
     let begun = c.in_ok-replay.ensures in
     let lists =
@@ -31,10 +31,10 @@ loop-entry-init c =
 
 pub enter-requires-clause-long : goal.enter-requires-clause-long
 enter-requires-clause-long c =
-    let setup = setup_view c.args.setup.now in
-    let w = c.args.worker in
+    let setup = setup_view c.args.who.setup.now in
+    let w = c.args.who.number in
     let who = nth_worker setup.job w in
-    let number = (worker_at setup.job w c.requires.worker).0 in
+    let number = (worker_at setup.job w c.args.who.there).0 in
     ap length c.loop-entry.invariant.replayed.lists_are
     ∙ (length-map (lanes_out setup.job who.number) (λ (lane : Lane).
     items_sent setup who (begun_view setup c.args.start.now w) lane
@@ -43,9 +43,9 @@ enter-requires-clause-long c =
 
 pub loop-entry-preserved : goal.loop-entry-preserved
 loop-entry-preserved c =
-    let setup = setup_view c.args.setup.now in
-    let who = nth_worker setup.job c.args.worker in
-    let view = begun_view setup c.args.start.now c.args.worker in
+    let setup = setup_view c.args.who.setup.now in
+    let who = nth_worker setup.job c.args.who.number in
+    let view = begun_view setup c.args.start.now c.args.who.number in
     let items = c.as_slice-entry-items.result.now in
     let i = c.loop-entry.entry-index in
     let this : Entry = c.entry-item.result in

@@ -21,10 +21,10 @@ use Rattle.flow_replay.proofs.replaying.send.Goals as goal
 
 pub route-requires : goal.route-requires
 route-requires c =
-    let job = (setup_view c.args.setup.now).job in
+    let job = (setup_view c.args.who.setup.now).job in
     let at = c.worker_at-at.result in
-    slice_get_within (senders job at.node) at.index (Some c.args.worker) (worker_sends job
-    c.args.worker at c.requires.worker c.worker_at-at.ensures.at)
+    slice_get_within (senders job at.node) at.index (Some c.args.who.number) (worker_sends job
+    c.args.who.number at c.args.who.there c.worker_at-at.ensures.at)
 
 -- the lane of an output, as its worker puts it
 lane_put : (job : JobView) (w : ℕ) (at : WorkerAt) (output : Output) → w < length (workers_in job) →
@@ -49,14 +49,14 @@ goes_on lanes' puts output items rest lists new goal' are is whole =
 pub loop-output-preserved-in_ok-put_on-in-Some-route :
     goal.loop-output-preserved-in_ok-put_on-in-Some-route
 loop-output-preserved-in_ok-put_on-in-Some-route c =
-    let job = (setup_view c.args.setup.now).job in
-    let who = nth_worker job c.args.worker in
-    let w = c.args.worker in
+    let job = (setup_view c.args.who.setup.now).job in
+    let who = nth_worker job c.args.who.number in
+    let w = c.args.who.number in
     let output = c.in-Some.output in
     let at = c.worker_at-at.result in
     let (lane, found, there) = c.in-Some-route.ensures.some (Some w) (worker_sends job w at
-    c.requires.worker c.worker_at-at.ensures.at) in
-    let goes = lane_put job w at output c.requires.worker c.worker_at-at.ensures.at ∙ found in
+    c.args.who.there c.worker_at-at.ensures.at) in
+    let goes = lane_put job w at output c.args.who.there c.worker_at-at.ensures.at ∙ found in
     let gained = c.in_ok-put_on-in-Some-route.ensures
     ∙ put_on job (lanes_out job w) (out_numbers job w) c.loop-output.lists (put_out job who
     output).lane (item.Carry output.tuple) c.in-Some-route.lane lane (numbers-are job w) goes
@@ -76,12 +76,12 @@ loop-output-preserved-in_ok-put_on-in-Some-route c =
 
 pub loop-output-preserved : goal.loop-output-preserved
 loop-output-preserved c =
-    let job = (setup_view c.args.setup.now).job in
-    let who = nth_worker job c.args.worker in
-    let w = c.args.worker in
+    let job = (setup_view c.args.who.setup.now).job in
+    let who = nth_worker job c.args.who.number in
+    let w = c.args.who.number in
     let output = c.in-Some.output in
     let at = c.worker_at-at.result in
-    let nowhere : (put_out job who output).lane ≡ None = lane_put job w at output c.requires.worker
+    let nowhere : (put_out job who output).lane ≡ None = lane_put job w at output c.args.who.there
     c.worker_at-at.ensures.at ∙ c.in-None-route.ensures.none (Some w) in
     let long = length-out job w in
     let same : with_puts (lanes_out job w) (put_out job who output ∷ []) c.loop-output.lists
@@ -101,16 +101,16 @@ loop-output-preserved c =
 
 pub returns : goal.returns
 returns c =
-    let job = (setup_view c.args.setup.now).job in
-    let who = nth_worker job c.args.worker in
+    let job = (setup_view c.args.who.setup.now).job in
+    let who = nth_worker job c.args.who.number in
     let none = nil_from_length (into_iter_items c.loop-output.output-iterator) (omega (
       arith,
       c.in-None.ensures.steps.0,
       c.loop-output.invariant.counted,
     )) in
-    let long = length-out job c.args.worker in
-    sym (with_puts-same (lanes_out job c.args.worker) [] c.loop-output.lists
+    let long = length-out job c.args.who.number in
+    sym (with_puts-same (lanes_out job c.args.who.number) [] c.loop-output.lists
     (c.loop-output.invariant.long ∙ long) (λ lane. refl))
-    ∙ ap (λ (x : List Output). with_puts (lanes_out job c.args.worker) (map (put_out job who) x)
+    ∙ ap (λ (x : List Output). with_puts (lanes_out job c.args.who.number) (map (put_out job who) x)
     c.loop-output.lists) (sym none)
     ∙ c.loop-output.invariant.put

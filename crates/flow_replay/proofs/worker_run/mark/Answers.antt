@@ -7,12 +7,12 @@ use Rattle.flow_replay.proofs.worker_run.mark.Goals as goal
 
 pub lane-edge-requires : goal.lane-edge-requires
 lane-edge-requires c =
-    number_within (job_view c.args.setup.now.job) c.args.worker c.loop-number.number-index
+    number_within (job_view c.args.who.setup.now.job) c.args.who.number c.loop-number.number-index
     c.lanes_in-number-items.result.now c.lanes_in-number-items.ensures c.loop-number-test.true
 
 pub loop-number-preserved : goal.loop-number-preserved
 loop-number-preserved c =
-    let setup = setup_view c.args.setup.now in
+    let setup = setup_view c.args.who.setup.now in
     marks-take setup c.args.request c.loop-number.number-index c.lanes_in-number-items.result.now
     c.loop-number.journal c.push.new.self
     (c.args.journal.now ++ marks_of setup c.args.request c.lanes_in-number-items.result.now)
@@ -24,7 +24,7 @@ loop-number-preserved c =
 
 pub loop-number-preserved-then-not-covers_edge : goal.loop-number-preserved-then-not-covers_edge
 loop-number-preserved-then-not-covers_edge c =
-    let setup = setup_view c.args.setup.now in
+    let setup = setup_view c.args.who.setup.now in
     marks-skip setup c.args.request c.loop-number.number-index c.lanes_in-number-items.result.now
     c.loop-number.journal
     (c.args.journal.now ++ marks_of setup c.args.request c.lanes_in-number-items.result.now)
@@ -35,7 +35,7 @@ loop-number-preserved-then-not-covers_edge c =
 
 pub returns : goal.returns
 returns c =
-    marks-end (setup_view c.args.setup.now) c.args.worker c.args.request c.loop-number.number-index
+    marks-end (setup_view c.args.who.setup.now) c.args.who.number c.args.request c.loop-number.number-index
     c.lanes_in-number-items.result.now c.args.journal.now c.loop-number.journal
     c.loop-number-test.false
     c.lanes_in-number-items.ensures c.loop-number.invariant

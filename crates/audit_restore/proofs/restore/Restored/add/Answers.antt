@@ -14,14 +14,14 @@ use Rattle.audit_restore.proofs.restore.Restored.add.Goals as goal
 
 pub returns : goal.returns
 returns c =
-    let setup = setup_view c.args.setup.now in
-    let w = c.args.worker in
+    let setup = setup_view c.args.who.setup.now in
+    let w = c.args.who.number in
     let begin = c.args.start.now in
     let who = nth_worker setup.job w in
     let made : List Entry = c.in_ok-journal.journal in
     let made_is = c.in_ok-journal.ensures.journal in
     let on : Lane → List Item = λ lane. items_sent setup who (begun_view setup begin w) lane made in
-    let number = (worker_at setup.job w c.requires.worker).0 in
+    let number = (worker_at setup.job w c.args.who.there).0 in
     let sends = c.send.ensures on (c.in_ok-state.ensures.sent ∙ ap (λ v. map on (lanes_out setup.job v)) number) in
     record {
       journals = c.set.ensures ∙ ap (slice_set c.args.self.now.journals w) made_is;

@@ -3,8 +3,8 @@ use Rattle.jobs.specs.Job.{job_view}
 use Rattle.flow_model.proofs.SizeLemmas.{workers-few}
 use Rattle.flow_replay.proofs.executor.Executor.turn_all.Goals as goal
 
-pub overflow_cast-worker : goal.overflow_cast-worker
-overflow_cast-worker c =
+pub overflow_cast-who : goal.overflow_cast-who
+overflow_cast-who c =
     let job = c.args.self.now.setup.now.job in
     omega (
       arith,

@@ -41,8 +41,8 @@ kept job w puts old slice now same len long is =
 
 pub returns-in-Marked : goal.returns-in-Marked
 returns-in-Marked c =
-    let setup = setup_view c.args.setup.now in
-    let w = c.args.worker in
+    let setup = setup_view c.args.who.setup.now in
+    let w = c.args.who.number in
     let who = nth_worker setup.job w in
     let old : Replaying = c.args.self.now in
     let slice = c.as_mut_slice-lists in
@@ -55,19 +55,19 @@ returns-in-Marked c =
     let long : length slice.result.now ≡ length (lanes_out setup.job w) =
     ap length slice.ensures.value ∙ (c.requires.long ∙ length-out setup.job w) in
     subst (λ (e : Entry). IsEntered setup who e old new) (sym c.in-Marked.is)
-    (entered setup who w this old new (worker_at setup.job w c.requires.worker).0 refl
+    (entered setup who w this old new (worker_at setup.job w c.args.who.there).0 refl
     (kept setup.job w [] old.lists slice.result.now slice.result.now slice.ensures.value
     slice.ensures.len c.requires.long
     (sym (with_puts-same (lanes_out setup.job w) [] slice.result.now long (λ lane. refl)))))
 
 pub returns-in_ok-send-in-Met : goal.returns-in_ok-send-in-Met
 returns-in_ok-send-in-Met c =
-    let setup = setup_view c.args.setup.now in
-    let w = c.args.worker in
+    let setup = setup_view c.args.who.setup.now in
+    let w = c.args.who.number in
     let who = nth_worker setup.job w in
     let old : Replaying = c.args.self.now in
     let slice = c.as_mut_slice-lists in
-    let (number, worker) = worker_at setup.job w c.requires.worker in
+    let (number, worker) = worker_at setup.job w c.args.who.there in
     let at : IsWorkerAt setup.job c.worker_at-at.result who =
     record { there = worker.there; at_is = c.worker_at-at.ensures.at } in
     let this = entry.Met c.in-Met.lane c.in-Met.tuple in
@@ -92,12 +92,12 @@ returns-in_ok-send-in-Met c =
 
 pub returns-in_ok-mark-in-Turned : goal.returns-in_ok-mark-in-Turned
 returns-in_ok-mark-in-Turned c =
-    let setup = setup_view c.args.setup.now in
-    let w = c.args.worker in
+    let setup = setup_view c.args.who.setup.now in
+    let w = c.args.who.number in
     let who = nth_worker setup.job w in
     let old : Replaying = c.args.self.now in
     let slice = c.as_mut_slice-lists in
-    let number = (worker_at setup.job w c.requires.worker).0 in
+    let number = (worker_at setup.job w c.args.who.there).0 in
     let request = c.in-Turned.request in
     let new : Replaying = record {
       alloc = old.alloc;
@@ -109,7 +109,7 @@ returns-in_ok-mark-in-Turned c =
     let this = puts setup who (replay_view setup who old) (entry.Turned request) in
     subst (λ (e : Entry). IsEntered setup who e old new) (sym c.in-Turned.is)
     (entered setup who w (entry.Turned request) old new number
-    (c.turn.ensures.view who (sym c.node_of.ensures.at))
+    (c.turn.ensures.view who (sym c.node.ensures.at))
     (kept setup.job w this old.lists slice.result.now c.mark.new.lists slice.ensures.value
     slice.ensures.len c.requires.long
     (c.in_ok-mark-in-Turned.ensures
@@ -125,12 +125,12 @@ differ a b ne = elim (eqb_tells a b) [ inl same ↦ absurd (ne same.1) | inr oth
 
 pub returns-in_ok-put_on-in-Ended : goal.returns-in_ok-put_on-in-Ended
 returns-in_ok-put_on-in-Ended c =
-    let setup = setup_view c.args.setup.now in
-    let w = c.args.worker in
+    let setup = setup_view c.args.who.setup.now in
+    let w = c.args.who.number in
     let who = nth_worker setup.job w in
     let old : Replaying = c.args.self.now in
     let slice = c.as_mut_slice-lists in
-    let number = (worker_at setup.job w c.requires.worker).0 in
+    let number = (worker_at setup.job w c.args.who.there).0 in
     let new : Replaying = record {
       alloc = old.alloc;
       state = c.end_lane.new.self;
@@ -158,12 +158,12 @@ returns-in_ok-put_on-in-Ended c =
 
 pub returns-else-self-lanes_in : goal.returns-else-self-lanes_in
 returns-else-self-lanes_in c =
-    let setup = setup_view c.args.setup.now in
-    let w = c.args.worker in
+    let setup = setup_view c.args.who.setup.now in
+    let w = c.args.who.number in
     let who = nth_worker setup.job w in
     let old : Replaying = c.args.self.now in
     let slice = c.as_mut_slice-lists in
-    let number = (worker_at setup.job w c.requires.worker).0 in
+    let number = (worker_at setup.job w c.args.who.there).0 in
     let new : Replaying = record {
       alloc = old.alloc;
       state = c.end_lane.new.self;

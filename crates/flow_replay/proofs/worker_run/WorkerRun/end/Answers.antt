@@ -14,7 +14,7 @@ loop-number-preserved c =
 
 pub returns : goal.returns
 returns c =
-    ends-end (setup_view c.args.setup.now) (nth_worker (job_view c.args.setup.now.job) c.args.worker)
-    c.args.worker c.loop-number.number-index c.lanes_in-number-items.result.now c.args.self.now
+    ends-end (setup_view c.args.who.setup.now) (nth_worker (job_view c.args.who.setup.now.job) c.args.who.number)
+    c.args.who.number c.loop-number.number-index c.lanes_in-number-items.result.now c.args.self.now
     c.loop-number.self c.lanes_in-number-items.ensures c.loop-number-test.false
     c.loop-number.invariant

@@ -1,6 +1,4 @@
-use Rattle.std.proofs.Common.{ap}
 use Rattle.flow_model.specs.Setup.{setup_view}
-use Rattle.flow_model.specs.declared.topology.WorkerAt.{WorkerAt}
 use Rattle.flow_replay.specs.declared.worker_run.WorkerRun.{WorkerRun}
 use Rattle.flow_replay.proofs.WorkerRunLemmas.{turned}
 use Rattle.flow_replay.proofs.worker_run.WorkerRun.turn.Goals as goal
@@ -8,7 +6,7 @@ use Rattle.flow_replay.proofs.worker_run.WorkerRun.turn.Goals as goal
 pub returns : goal.returns
 returns c =
     let new : WorkerRun = record { journal = c.push.new.self; state = c.turn.new.self } in
-    turned (setup_view c.args.setup.now) c.args.worker c.args.request c.worker_at-at.result.node
+    turned (setup_view c.args.who.setup.now) c.args.who.number c.args.request c.node.result
     c.args.self.now new c.mark.new.journal
-    (ap (λ (a : WorkerAt). a.node) c.worker_at-at.ensures.at) c.in_ok-mark.ensures
+    c.node.ensures.at c.in_ok-mark.ensures
     c.in_ok-push.ensures.ok c.turn.ensures.view

@@ -5,6 +5,6 @@ use Rattle.flow_replay.proofs.worker_run.WorkerRun.turn_if_covered.Goals as goal
 
 pub returns-else-covers : goal.returns-else-covers
 returns-else-covers c =
-    uncovered_gain (setup_view c.args.setup.now) c.args.worker c.args.request c.args.self.now
-    (cover_answer (setup_view c.args.setup.now) c.args.worker c.args.request c.covers.result c.requires
+    uncovered_gain (setup_view c.args.who.setup.now) c.args.who.number c.args.request c.args.self.now
+    (cover_answer (setup_view c.args.who.setup.now) c.args.who.number c.args.request c.covers.result c.args.who.there
     c.covers.ensures ∙ c.if-covers.false)
