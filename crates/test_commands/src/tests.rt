@@ -18,7 +18,7 @@ mod ways;
 mod words;
 
 use crate::tests::alone::{ByThemselves, are_alerts};
-use crate::tests::told::{has_audit, tells_feed, tells_turns};
+use crate::tests::told::{audit_of, feed_of, turns_of};
 use flow_model::RunRecord;
 use fries_call::Outcome;
 use payments::{Calls, MemoryShelf, MemorySink};
@@ -27,7 +27,18 @@ use std::process::Abort;
 use std::sync::Wait;
 use std::thread::Threads;
 use test_calls::{call, file, put_text, words_in};
-use tuple_trace::{NoMemory, OpenGate, Word};
+use test_texts::shown;
+use tuple_trace::{Bytes, NoMemory, OpenGate, Word};
+
+/// Asserts that bytes are those of a text. Shows both if they aren't.
+pub fn check_text(rt: &impl Abort, found: &[u8], want: &str) {
+    assert_eq!(rt; shown(found), want);
+}
+
+/// Asserts that bytes are those of a text. Shows both if they aren't, and `what` they are.
+pub fn check_text_of(rt: &impl Abort, what: &str, found: &[u8], want: &str) {
+    assert_eq!(rt; shown(found), want, "{what}");
+}
 
 /// What a file is to be.
 #[derive(Clone, Copy)]
@@ -113,12 +124,13 @@ where
     }
 }
 
-/// Checks a call over these files in place of its own. The assert of the tests stands here.
+/// Checks a call over these files in place of its own.
 pub fn check_over<R>(rt: &R, files: &[(&str, &str)], case: &Case<'_>)
 where
     R: AllocGlobal + Abort + Threads + Wait + Copy + Send + Sync + 'static,
 {
-    assert!(rt; leaves(rt, files, case), "{}: {}", case.line, case.out);
+    let words = words_in(rt.alloc(), case.line).expect(rt, "memory");
+    check_words(rt, files, case, &words).expect(rt, "memory");
 }
 
 /// Checks a call with each of these lines in place of its own.
@@ -141,57 +153,63 @@ where
     }
 }
 
-fn leaves<R>(rt: &R, files: &[(&str, &str)], case: &Case<'_>) -> bool
-where
-    R: AllocGlobal + Threads + Wait + Copy + Send + Sync + 'static,
-{
-    match words_in(rt.alloc(), case.line) {
-        Ok(words) => matches!(is_left(rt, files, case, &words), Ok(true)),
-        Err(_) => false,
-    }
-}
-
-fn is_left<R>(
+fn check_words<R>(
     rt: &R,
     files: &[(&str, &str)],
     case: &Case<'_>,
     words: &[Word],
-) -> Result<bool, NoMemory>
+) -> Result<(), NoMemory>
 where
-    R: AllocGlobal + Threads + Wait + Copy + Send + Sync + 'static,
+    R: AllocGlobal + Abort + Threads + Wait + Copy + Send + Sync + 'static,
 {
     let mut shelf = shelf_of(rt.alloc(), files, case.failing)?;
     let mut out = sink_of(rt.alloc(), case.refusing)?;
-    ends(rt, case, words, &mut shelf, &mut out)
+    check_call(rt, case, words, &mut shelf, &mut out)
 }
 
-fn ends<R>(
+fn check_call<R>(
     rt: &R,
     case: &Case<'_>,
     words: &[Word],
     shelf: &mut MemoryShelf,
     out: &mut MemorySink,
-) -> Result<bool, NoMemory>
+) -> Result<(), NoMemory>
 where
-    R: AllocGlobal + Threads + Wait + Copy + Send + Sync + 'static,
+    R: AllocGlobal + Abort + Threads + Wait + Copy + Send + Sync + 'static,
 {
     let outcome = call(rt, rt.alloc(), words, shelf, out, &OpenGate)?;
-    Ok(has_left(rt.alloc(), &outcome, shelf, out.written(), case))
+    check_left(rt, &outcome, shelf, out.written(), case);
+    Ok(())
 }
 
-fn has_left(
-    alloc: Global,
+fn check_left(
+    rt: &(impl AllocGlobal + Abort),
     outcome: &Outcome,
     shelf: &MemoryShelf,
     out: &[u8],
     case: &Case<'_>,
-) -> bool {
-    outcome.status == case.status
-        && out == case.out.as_bytes()
-        && has_failed(shelf, case.failed)
-        && is_ran(alloc, &outcome.ran, case.ran)
-        && is_stored(alloc, file(alloc, shelf, "alerts.csv"), case.alerts)
-        && is_stored(alloc, file(alloc, shelf, "audit.csv"), case.audit)
+) {
+    check_text_of(rt, case.line, out, case.out);
+    assert_eq!(rt; outcome.status, case.status, "{}", case.line);
+    assert!(rt;
+        has_failed(shelf, case.failed),
+        "{}: {:?}",
+        case.line,
+        case.failed
+    );
+    check_ran(rt, case.line, &outcome.ran, case.ran);
+    check_stored(
+        rt,
+        case.line,
+        file(rt.alloc(), shelf, "alerts.csv"),
+        case.alerts,
+    );
+    check_stored(
+        rt,
+        case.line,
+        file(rt.alloc(), shelf, "audit.csv"),
+        case.audit,
+    );
 }
 
 fn has_failed(shelf: &MemoryShelf, wanted: Option<&str>) -> bool {
@@ -206,22 +224,41 @@ fn has_failed(shelf: &MemoryShelf, wanted: Option<&str>) -> bool {
     }
 }
 
-fn is_ran(alloc: Global, ran: &Option<RunRecord>, wanted: Ran<'_>) -> bool {
+fn check_ran(
+    rt: &(impl AllocGlobal + Abort),
+    line: &str,
+    ran: &Option<RunRecord>,
+    wanted: Ran<'_>,
+) {
     match (ran, wanted) {
-        (None, Ran::Nothing) | (Some(_), Ran::Something) => true,
-        (Some(ran), Ran::Audit(text)) => has_audit(alloc, ran, text),
-        (Some(ran), Ran::Feed(lines)) => tells_feed(alloc, ran, lines),
-        (Some(ran), Ran::Turns(lines)) => tells_turns(alloc, ran, lines),
-        _ => false,
+        (None, Ran::Nothing) | (Some(_), Ran::Something) => {}
+        (Some(ran), Ran::Audit(text)) => check_told(rt, line, audit_of(rt.alloc(), ran), text),
+        (Some(ran), Ran::Feed(lines)) => check_told(rt, line, feed_of(rt.alloc(), ran), lines),
+        (Some(ran), Ran::Turns(lines)) => check_told(rt, line, turns_of(rt.alloc(), ran), lines),
+        (Some(_), Ran::Nothing) => assert!(rt; false, "{line}: a record"),
+        (None, _) => assert!(rt; false, "{line}: no record"),
     }
 }
 
-fn is_stored(alloc: Global, bytes: Option<&[u8]>, wanted: Wanted<'_>) -> bool {
+fn check_told(rt: &impl Abort, line: &str, found: Option<Bytes>, wanted: &str) {
+    let found = found.expect(rt, "memory");
+    check_text_of(rt, line, found.as_slice(), wanted);
+}
+
+fn check_stored(
+    rt: &(impl AllocGlobal + Abort),
+    line: &str,
+    bytes: Option<&[u8]>,
+    wanted: Wanted<'_>,
+) {
     match (bytes, wanted) {
-        (_, Wanted::Any) | (None, Wanted::Nothing) | (Some(_), Wanted::Something) => true,
-        (Some(bytes), Wanted::Text(text)) => bytes == text.as_bytes(),
-        (Some(bytes), Wanted::Alone(rows)) => are_alerts(alloc, bytes, rows),
-        _ => false,
+        (_, Wanted::Any) | (None, Wanted::Nothing) | (Some(_), Wanted::Something) => {}
+        (Some(bytes), Wanted::Text(text)) => check_text_of(rt, line, bytes, text),
+        (Some(bytes), Wanted::Alone(rows)) => {
+            assert!(rt; are_alerts(rt.alloc(), bytes, rows), "{line}: the alerts");
+        }
+        (Some(_), Wanted::Nothing) => assert!(rt; false, "{line}: a file"),
+        (None, _) => assert!(rt; false, "{line}: no file"),
     }
 }
 

@@ -1,6 +1,5 @@
 mod gates;
 mod lawful;
-mod lines;
 mod overtaking;
 mod plain;
 mod random;
@@ -16,10 +15,17 @@ use crate::tests::seen::{Seen, Wanted, are_wanted, is_audit, is_printed, met_bef
 use fries_call::Outcome;
 use payments::{Calls, MemoryShelf, MemorySink};
 use std::alloc::Global;
+use std::process::Abort;
 use std::sync::Wait;
 use std::thread::Threads;
 use test_calls::{call, file, put_text, words_of};
+use test_texts::shown;
 use tuple_trace::{Gate, NoMemory, Word};
+
+/// Asserts that bytes are those of a text. Shows both if they aren't.
+pub fn check_text(rt: &impl Abort, found: &[u8], want: &str) {
+    assert_eq!(rt; shown(found), want);
+}
 
 /// What `run` is called with: the texts of its files, and the numbers of its options.
 #[derive(Clone, Copy)]

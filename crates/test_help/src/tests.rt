@@ -12,8 +12,15 @@ use fries_help::{Call, ShelfLook, advice};
 use fries_lines::Fault;
 use payments::{Calls, MemoryShelf};
 use std::alloc::Global;
+use std::process::Abort;
+use test_texts::shown;
 use tuple_trace::{Bytes, NoMemory, Word};
 use versions::Refused;
+
+/// Asserts that bytes are those of a text. Shows both if they aren't.
+pub fn check_text(rt: &impl Abort, found: &[u8], want: &str) {
+    assert_eq!(rt; shown(found), want);
+}
 
 /// A job that is lawful.
 pub const JOB: &str = r#"columns = ["account:text", "amount:cents", "seen:number:own"]
@@ -70,15 +77,29 @@ pub fn with(alloc: Global, text: &str, case: Case) -> Result<String, NoMemory> {
     }
 }
 
-/// Whether this is told of a call over these files.
-pub fn is_told(
+/// Asserts that this is told.
+pub fn check_told(rt: &impl Abort, found: Result<String, NoMemory>, told: &str) {
+    let found = found.expect(rt, "memory");
+    check_text(rt, found.as_bytes(), told);
+}
+
+/// Asserts that a head is told, and this after it.
+pub fn check_told_after(rt: &impl Abort, head: &str, found: Result<String, NoMemory>, told: &str) {
+    let found = found.expect(rt, "memory");
+    match found.strip_prefix(head) {
+        Some(rest) => check_text(rt, rest.as_bytes(), told),
+        None => check_text(rt, found.as_bytes(), head),
+    }
+}
+
+/// What is told of a call over these files.
+pub fn told_of(
     alloc: Global,
     files: &[(&str, &str)],
     words: &[&str],
     fault: Option<Fault>,
     refused: &[Refused],
-    told: &str,
-) -> Result<bool, NoMemory> {
+) -> Result<String, NoMemory> {
     let mut shelf = shelf_of(alloc, files)?;
     let words = words_of(alloc, words)?;
     let call = Call {
@@ -87,8 +108,7 @@ pub fn is_told(
         fault,
         refused,
     };
-    let text = advice(alloc, call, &mut ShelfLook { shelf: &mut shelf })?;
-    Ok(text.as_str() == told)
+    advice(alloc, call, &mut ShelfLook { shelf: &mut shelf })
 }
 
 /// A shelf with these files.

@@ -15,3 +15,11 @@ mod saves;
 mod shapes;
 mod streams;
 mod verified;
+
+use std::process::Abort;
+use test_texts::shown;
+
+/// Asserts that bytes are those of a text. Shows both if they aren't.
+pub fn check_text(rt: &impl Abort, found: &[u8], want: &str) {
+    assert_eq!(rt; shown(found), want);
+}

@@ -14,11 +14,18 @@ use flow_model::RunRecord;
 use fries_call::Outcome;
 use payments::{Calls, MemoryShelf, MemorySink};
 use std::alloc::Global;
+use std::process::Abort;
 use std::str;
 use std::sync::Wait;
 use std::thread::Threads;
 use test_calls::{Said, call, file, put_text, say, words_in};
+use test_texts::shown;
 use tuple_trace::{NoMemory, OpenGate};
+
+/// Asserts that bytes are those of a text. Shows both if they aren't, and `what` they are.
+pub fn check_text_of(rt: &impl Abort, what: &str, found: &[u8], want: &str) {
+    assert_eq!(rt; shown(found), want, "{what}");
+}
 
 /// The texts of the files that both commands read.
 #[derive(Clone, Copy)]
@@ -50,15 +57,37 @@ pub struct Left<'a> {
 
 const NAMES: [&str; 3] = ["alerts", "audit", "save"];
 
-/// Whether a call leaves this. The line has its words, with a space between two.
-pub fn leaves<R>(rt: &R, alloc: Global, around: Around<'_>, line: &str, left: Left<'_>) -> bool
+/// Asserts that a call leaves this. The line has its words, with a space between two.
+pub fn check_call<R>(rt: &R, around: Around<'_>, line: &str, left: Left<'_>)
 where
-    R: Threads + Wait + Copy + Send + Sync + 'static,
+    R: AllocGlobal + Abort + Threads + Wait + Copy + Send + Sync + 'static,
 {
-    let Ok(mut shelf) = shelf_of(alloc, around) else {
-        return false;
-    };
-    says(rt, alloc, line, &mut shelf, left) && are_left(alloc, &shelf, left.after)
+    let (save, failing) = (around.before[2], around.failing);
+    let what = format!(in rt.alloc(); "{line}, save {save}, failing {failing:?}");
+    let what = what.expect(rt, "memory");
+    check_over(rt, around, line, left, what.as_str()).expect(rt, "memory");
+}
+
+fn check_over<R>(
+    rt: &R,
+    around: Around<'_>,
+    line: &str,
+    left: Left<'_>,
+    what: &str,
+) -> Result<(), NoMemory>
+where
+    R: AllocGlobal + Abort + Threads + Wait + Copy + Send + Sync + 'static,
+{
+    let mut shelf = shelf_of(rt.alloc(), around)?;
+    let said = said_of(rt, rt.alloc(), line, &mut shelf)?;
+    check_said(rt, &said, left, what);
+    check_stored(rt, &shelf, left.after, what);
+    Ok(())
+}
+
+fn check_said(rt: &impl Abort, said: &Said, left: Left<'_>, what: &str) {
+    check_text_of(rt, what, said.out.written(), left.out);
+    assert_eq!(rt; said.status, left.status, "{what}");
 }
 
 fn said_of<R>(rt: &R, alloc: Global, line: &str, shelf: &mut MemoryShelf) -> Result<Said, NoMemory>
@@ -66,17 +95,6 @@ where
     R: Threads + Wait + Copy + Send + Sync + 'static,
 {
     say(rt, alloc, &words_in(alloc, line)?, shelf)
-}
-
-// Whether a call has this status, and prints this.
-fn says<R>(rt: &R, alloc: Global, line: &str, shelf: &mut MemoryShelf, left: Left<'_>) -> bool
-where
-    R: Threads + Wait + Copy + Send + Sync + 'static,
-{
-    match said_of(rt, alloc, line, shelf) {
-        Ok(said) => said.is(left.status, left.out),
-        Err(_) => false,
-    }
 }
 
 /// Whether a call ends well, with requests refused or not.
@@ -114,12 +132,17 @@ fn ran_of(alloc: Global, outcome: Box<Outcome>) -> Option<Box<RunRecord>> {
     }
 }
 
-fn are_left(alloc: Global, shelf: &MemoryShelf, after: [Option<&str>; 3]) -> bool {
-    let mut well = true;
+fn check_stored(
+    rt: &(impl AllocGlobal + Abort),
+    shelf: &MemoryShelf,
+    after: [Option<&str>; 3],
+    what: &str,
+) {
     for (name, wanted) in NAMES.iter().zip(after.iter()) {
-        well &= wanted.is_none() || stored(alloc, shelf, name) == *wanted;
+        if wanted.is_some() {
+            assert_eq!(rt; stored(rt.alloc(), shelf, name), *wanted, "{what}: {name}");
+        }
     }
-    well
 }
 
 /// The text that stands under this name.

@@ -10,17 +10,30 @@ mod left;
 mod resumed;
 mod texts;
 
+use crate::tests::left::bytes_of;
 use fries_lines::Fault;
 use fries_steps::Host;
 use fries_words::stream_of;
 use input_pieces::{SureTap, Tap};
 use payments::{Calls, GrowingShelf, MemoryShelf, MemorySink};
 use std::alloc::Global;
+use std::process::Abort;
 use std::sync::Wait;
 use std::thread::Threads;
 use stream_call::stream;
 use stream_run::{PartEnd, Watch};
+use test_texts::shown;
 use tuple_trace::{Bytes, NoMemory, OpenGate, Word};
+
+/// Asserts that bytes are those of a text. Shows both if they aren't.
+pub fn check_text(rt: &impl Abort, found: &[u8], want: &str) {
+    assert_eq!(rt; shown(found), want);
+}
+
+/// Asserts that bytes are those of a text. Shows both if they aren't, and `what` they are.
+pub fn check_text_of(rt: &impl Abort, what: &str, found: &[u8], want: &str) {
+    assert_eq!(rt; shown(found), want, "{what}");
+}
 
 /// The words of a stream without a savepoint.
 pub const STREAM: &str = "stream job.toml requests.toml alerts.csv audit.csv";
@@ -60,11 +73,10 @@ pub struct Said {
     pub told: Counter,
 }
 
-impl Said {
-    /// Whether the stream had this status, and printed this.
-    pub fn is(&self, status: u8, printed: &str) -> bool {
-        self.status == status && self.out.written() == printed.as_bytes()
-    }
+/// Asserts that a stream had this status, and printed this.
+pub fn check_said(rt: &impl Abort, said: &Said, status: u8, printed: &str) {
+    check_text(rt, said.out.written(), printed);
+    assert_eq!(rt; said.status, status);
 }
 
 /// Runs a stream that a line of words asks for.
@@ -111,13 +123,12 @@ pub fn tap_of(alloc: Global, text: &str, most: usize) -> Option<SureTap> {
     Some(SureTap::new(bytes, most))
 }
 
-/// Whether a file holds this text.
-pub fn holds(alloc: Global, shelf: &MemoryShelf, name: &str, text: &str) -> bool {
-    let Ok(name) = word(alloc, name) else {
-        return false;
-    };
-    match shelf.get(&name) {
-        Some(bytes) => bytes.as_slice() == text.as_bytes(),
-        None => false,
-    }
+/// Asserts that the alerts are this text.
+pub fn check_alerts(rt: &(impl AllocGlobal + Abort), shelf: &MemoryShelf, text: &str) {
+    check_text_of(
+        rt,
+        "alerts.csv",
+        bytes_of(rt.alloc(), shelf, "alerts.csv"),
+        text,
+    );
 }

@@ -1,12 +1,25 @@
 //! Texts of jobs, requests, payments, alerts, audits and savepoints that several crates of tests
-//! share.
+//! share, and functions on texts.
 //!
 //! A text that one crate alone uses stands there.
 //!
 //! ```
 //! let inputs = Inputs { job: CHAIN, requests: "", payments: FOUR_PAYMENTS, ordered: false };
+//! assert_eq!(rt; shown(out.written()), "rows 4 alerts 2 requests 0 refused 0\n");
 //! ```
 #![tactic(auto)]
+
+mod checks;
+mod draws;
+mod jobs;
+mod lines;
+mod steady_audit;
+
+pub use checks::shown;
+pub use draws::{digit, draw};
+pub use jobs::{COUNTER, RING, ROOF, TWO_SOURCES};
+pub use lines::{same_lines, times};
+pub use steady_audit::is_steady_audit;
 
 /// Payments from two sources: rated by a table, parted by their amount, and counted for each
 /// account. It is the job of examples/payments.
@@ -116,6 +129,21 @@ node = "big"
 from = 0
 kind = "filter"
 when = [["amount", ">=", 1]]
+"#;
+
+/// The first of these requests, before all rows.
+pub const AT_THE_FRONT: &str = r#"[[request]]
+after = 0
+[[request.change]]
+node = "big"
+from = 0
+kind = "filter"
+when = [["amount", ">=", 5000]]
+[[request.change]]
+node = "hot"
+from = 0
+kind = "filter"
+when = [["risk", ">=", 3]]
 "#;
 
 /// The payments of examples/payments.
@@ -290,31 +318,3 @@ pub const AUDIT_CUT: &str = "entry,node,worker,lane,number,extra
 stopped,,,,,
 ended,alerts,0,1,,
 ";
-
-/// Rows of `p` go over `a` to `b`, rows of `q` go to `b` at once.
-pub const TWO_SOURCES: &str = r#"
-columns = ["amount:cents"]
-node = [
-  { name = "p", kind = "source" },
-  { name = "q", kind = "source" },
-  { name = "a", kind = "map", steps = [] },
-  { name = "b", kind = "map", steps = [] },
-  { name = "out", kind = "sink", columns = ["amount"] },
-]
-edge = [
-  { from = "p", to = "a" },
-  { from = "a", to = "b" },
-  { from = "q", to = "b" },
-  { from = "b", to = "out" },
-]
-"#;
-
-/// A counter of three workers.
-pub const COUNTER: &str = r#"columns = ["account:text", "seen:number:own"]
-node = [
-  { name = "card", kind = "source" },
-  { name = "c", kind = "count", workers = 3, key = "account", add = 1, into = "seen" },
-  { name = "out", kind = "sink", columns = ["account", "seen"] },
-]
-edge = [{ from = "card", to = "c" }, { from = "c", to = "out" }]
-"#;

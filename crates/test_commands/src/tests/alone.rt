@@ -8,7 +8,7 @@ use std::str;
 use std::sync::Wait;
 use std::thread::Threads;
 use test_runs::{job_of, rows_of};
-use test_texts::{CHAIN, FOUR_PAYMENTS};
+use test_texts::{CHAIN, FOUR_PAYMENTS, same_lines};
 use tuple_trace::{Bytes, NoMemory, Row, Value};
 
 /// Two sources, a split into as many pieces as there may be, `counted` with eight workers, and a
@@ -191,26 +191,6 @@ fn push_job(
         sink: rows.sink,
     };
     path.push_rows(all.as_slice(), olds, old, lines)
-}
-
-/// How many lines of a text are this one.
-fn times(text: &str, line: &str) -> usize {
-    let mut found = 0usize;
-    for other in text.lines() {
-        if other == line {
-            found = found.saturating_add(1);
-        }
-    }
-    found
-}
-
-/// Whether two texts have the same lines, each as often. A line feed ends each line.
-fn same_lines(some: &str, others: &str) -> bool {
-    let mut same = some.len() == others.len();
-    for line in some.lines() {
-        same &= times(some, line) == times(others, line);
-    }
-    same
 }
 
 /// Rows that are sent through a job by themselves: each through the old one if its flag is set,

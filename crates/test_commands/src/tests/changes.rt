@@ -24,22 +24,6 @@ after = 3
 change = [{ node = "big", from = 0, kind = "filter", when = [["amount", ">=", 5000]] }]
 "#;
 
-/// The first request of the payments job, before the first row.
-pub const AT_THE_FRONT: &str = r#"
-[[request]]
-after = 0
-[[request.change]]
-node = "big"
-from = 0
-kind = "filter"
-when = [["amount", ">=", 5000]]
-[[request.change]]
-node = "hot"
-from = 0
-kind = "filter"
-when = [["risk", ">=", 3]]
-"#;
-
 /// A map between a source and a sink, which multiplies by a million.
 pub const TIMES_A_MILLION: &str = r#"
 columns = ["amount:cents"]

@@ -2,37 +2,7 @@ use crate::tests::{CALL, Case, check_all, check_over};
 use std::process::Abort;
 use std::sync::Wait;
 use std::thread::Threads;
-use test_texts::{CHAIN, PAYMENTS_JOB};
-
-const CYCLE: &str = r#"columns = ["amount:cents"]
-
-[[node]]
-name = "a"
-kind = "map"
-steps = []
-
-[[node]]
-name = "b"
-kind = "map"
-steps = []
-
-[[node]]
-name = "c"
-kind = "map"
-steps = []
-
-[[edge]]
-from = "a"
-to = "b"
-
-[[edge]]
-from = "b"
-to = "c"
-
-[[edge]]
-from = "c"
-to = "a"
-"#;
+use test_texts::{CHAIN, PAYMENTS_JOB, RING};
 
 const CHECK: Case<'static> = Case {
     files: &[("job.toml", CHAIN)],
@@ -70,7 +40,7 @@ fn unprinted_sizes(rt: HostRuntime) {
 }
 
 static REFUSED: [Case<'static>; 1] = [Case {
-    files: &[("job.toml", CYCLE)],
+    files: &[("job.toml", RING)],
     status: 2,
     out: "fault 2 J7 node 0\n",
     ..CHECK

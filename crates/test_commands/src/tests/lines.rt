@@ -1,9 +1,9 @@
 //! The lines of faults, each code once.
 
+use crate::tests::check_text;
 use fries_lines::{Fault, FileIs, fault_line};
 use job_file::{JobFault, Named, Part, ReqFileFault, Which};
 use payments::PFault;
-use std::alloc::Global;
 
 static LINES: [(Fault, &str); 23] = [
     (Fault::Job(JobFault::NotToml), "fault 2 J1\n"),
@@ -58,16 +58,10 @@ static LINES: [(Fault, &str); 23] = [
     ),
 ];
 
-fn has_line(alloc: Global, fault: Fault, wanted: &str) -> bool {
-    match fault_line(alloc, fault) {
-        Ok(line) => line.as_str() == wanted,
-        Err(_) => false,
-    }
-}
-
 #[test]
 fn lines_of_faults(rt: HostRuntime) {
     for (fault, line) in &LINES {
-        assert!(rt; has_line(rt.alloc(), *fault, line), "{line}");
+        let found = fault_line(rt.alloc(), *fault).expect(&rt, "memory");
+        check_text(&rt, found.as_bytes(), line);
     }
 }

@@ -1,14 +1,12 @@
-use crate::tests::changes::{
-    AFTER_2_AND_3, AFTER_4, AT_FIRST, AT_THE_FRONT, TIMES_A_MILLION, UNCHANGED,
-};
+use crate::tests::changes::{AFTER_2_AND_3, AFTER_4, AT_FIRST, TIMES_A_MILLION, UNCHANGED};
 use crate::tests::texts::{FOUR_ALERTS, HEADER};
 use crate::tests::{CALL, Case, Ran, Wanted, check_all};
 use std::process::Abort;
 use std::sync::Wait;
 use std::thread::Threads;
 use test_texts::{
-    AUDIT_OF_NONE, CHAIN, FOUR_PAYMENTS, PAYMENTS_ALERTS, PAYMENTS_JOB, PAYMENTS_REQUESTS,
-    REVIEW_ALERTS, SPACED_AFTER_2, TEN_PAYMENTS, THREE_ALERTS, TWO_ALERTS,
+    AT_THE_FRONT, AUDIT_OF_NONE, CHAIN, FOUR_PAYMENTS, PAYMENTS_ALERTS, PAYMENTS_JOB,
+    PAYMENTS_REQUESTS, REVIEW_ALERTS, SPACED_AFTER_2, TEN_PAYMENTS, THREE_ALERTS, TWO_ALERTS,
 };
 
 const LINE: &str = "run job.toml requests.toml payments.csv alerts.csv audit.csv";

@@ -6,32 +6,29 @@ use sink_journal::{Entry, Feed, Journal, audit_text};
 use std::alloc::Global;
 use tuple_trace::{Bytes, NoMemory};
 
-/// Whether this is the audit of a record without refused requests. `false` if memory runs out, as
-/// below.
-pub fn has_audit(alloc: Global, ran: &RunRecord, text: &str) -> bool {
+/// The audit of a record without refused requests. `None` if it lacks a journal or counts of a
+/// worker, or memory runs out.
+pub fn audit_of(alloc: Global, ran: &RunRecord) -> Option<Bytes> {
     let job = &ran.setup.job;
     let count = worker_count(job);
     if ran.journals.len() as u64 != count || ran.states.len() as u64 != count {
-        return false;
+        return None;
     }
-    match audit_text(alloc, job, &[], &ran.feeds, &ran.journals, &ran.states) {
-        Ok(audit) => audit.as_slice() == text.as_bytes(),
-        Err(_) => false,
-    }
+    audit_text(alloc, job, &[], &ran.feeds, &ran.journals, &ran.states).ok()
 }
 
-/// Whether these are the lines of the feed of a record.
-pub fn tells_feed(alloc: Global, ran: &RunRecord, lines: &str) -> bool {
+/// The lines of the feed of a record. `None` if memory runs out.
+pub fn feed_of(alloc: Global, ran: &RunRecord) -> Option<Bytes> {
     let mut feed = Bytes::new(alloc);
-    push_feeds(alloc, ran.feeds.as_slice(), &mut feed).is_ok()
-        && feed.as_slice() == lines.as_bytes()
+    push_feeds(alloc, ran.feeds.as_slice(), &mut feed).ok()?;
+    Some(feed)
 }
 
-/// Whether these are the lines of the turns of a record.
-pub fn tells_turns(alloc: Global, ran: &RunRecord, lines: &str) -> bool {
+/// The lines of the turns of a record. `None` if memory runs out.
+pub fn turns_of(alloc: Global, ran: &RunRecord) -> Option<Bytes> {
     let mut turns = Bytes::new(alloc);
-    push_journals(alloc, ran.journals.as_slice(), &mut turns).is_ok()
-        && turns.as_slice() == lines.as_bytes()
+    push_journals(alloc, ran.journals.as_slice(), &mut turns).ok()?;
+    Some(turns)
 }
 
 fn push_journals(alloc: Global, journals: &[Journal], lines: &mut Bytes) -> Result<(), NoMemory> {

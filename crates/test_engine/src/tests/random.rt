@@ -10,6 +10,7 @@ use crate::tests::{Input, run};
 use std::alloc::{AllocError, Global};
 use std::sync::Wait;
 use std::thread::Threads;
+use test_texts::{digit, draw};
 use tuple_trace::{NoMemory, OpenGate};
 
 const CAPACITIES: [&str; 4] = ["1", "2", "16", "64"];
@@ -46,31 +47,6 @@ impl Case {
             threads: "4",
             capacity: self.capacity,
         }
-    }
-}
-
-/// What a seed draws for this use, below `count`.
-fn draw(seed: u64, usage: u64, count: u64) -> u64 {
-    let mixed = seed
-        .wrapping_mul(0x9e37_79b9_7f4a_7c15)
-        .wrapping_add(usage)
-        .wrapping_mul(0xbf58_476d_1ce4_e5b9);
-    let mixed = (mixed ^ mixed >> 29).wrapping_mul(0x94d0_49bb_1331_11eb);
-    (mixed >> 32).wrapping_mul(count) >> 32
-}
-
-fn digit(number: u64) -> char {
-    match number {
-        0 => '0',
-        1 => '1',
-        2 => '2',
-        3 => '3',
-        4 => '4',
-        5 => '5',
-        6 => '6',
-        7 => '7',
-        8 => '8',
-        _ => '9',
     }
 }
 
@@ -207,13 +183,7 @@ where
 
 #[test]
 fn two_hundred_runs(rt: HostRuntime) {
-    assert!(rt;
-        matches!(
-            run_all(&rt, rt.alloc(), 200),
-            Ok(Found {
-                ran: 190..=200,
-                wrong: 0
-            })
-        )
-    );
+    let found = run_all(&rt, rt.alloc(), 200).expect(&rt, "memory");
+    assert_eq!(rt; found.wrong, 0);
+    assert!(rt; found.ran >= 190 && found.ran <= 200, "{} runs", found.ran);
 }

@@ -1,7 +1,7 @@
-use crate::tests::lines::{same_lines, times};
 use flow_model::RunRecord;
 use sink_journal::Entry;
 use std::str;
+use test_texts::{is_steady_audit, same_lines, times};
 
 /// What a call is to leave.
 #[derive(Clone, Copy)]
@@ -37,12 +37,8 @@ pub enum Alerts<'a> {
 #[derive(Clone, Copy)]
 pub enum Audit<'a> {
     Any,
-    /// It has `lines` lines. This text is left of it without those of the workers of these nodes.
-    Without {
-        nodes: &'a [&'a str],
-        lines: usize,
-        rest: &'a str,
-    },
+    /// It is an audit of the payments job that begins with `head`, and has `lines` lines.
+    Steady { head: &'a str, lines: usize },
 }
 
 /// What is seen of a call.
@@ -108,43 +104,10 @@ fn have_one_of_each(alerts: &[u8], pairs: &[(&str, &str)]) -> bool {
 pub fn is_audit(audit: &[u8], wanted: Audit<'_>) -> bool {
     match (str::from_utf8(audit), wanted) {
         (_, Audit::Any) => true,
-        (Ok(audit), Audit::Without { nodes, lines, rest }) => {
-            audit.lines().count() == lines && leaves(audit, nodes, rest)
+        (Ok(audit), Audit::Steady { head, lines }) => {
+            audit.lines().count() == lines && is_steady_audit(audit, head)
         }
-        (Err(_), Audit::Without { .. }) => false,
-    }
-}
-
-fn leaves(audit: &str, nodes: &[&str], rest: &str) -> bool {
-    let mut wanted = rest.lines();
-    let mut well = true;
-    for line in audit.lines() {
-        if !is_of(node_of(line), nodes) {
-            well &= is_line(wanted.next(), line);
-        }
-    }
-    well && wanted.next().is_none()
-}
-
-fn is_line(wanted: Option<&str>, line: &str) -> bool {
-    match wanted {
-        Some(wanted) => wanted == line,
-        None => false,
-    }
-}
-
-fn is_of(node: &str, nodes: &[&str]) -> bool {
-    nodes.iter().any(|name| *name == node)
-}
-
-// The second field of a record.
-fn node_of(line: &str) -> &str {
-    let Some((_, rest)) = line.split_once(',') else {
-        return "";
-    };
-    match rest.split_once(',') {
-        Some((node, _)) => node,
-        None => "",
+        (Err(_), Audit::Steady { .. }) => false,
     }
 }
 

@@ -1,8 +1,9 @@
 //! What `verify` says of audits that `run` wrote, and of audits with a damage.
 use crate::tests::random::Case;
-use crate::tests::{AUDIT, Input, bytes_of, shelf_of};
+use crate::tests::{AUDIT, Input, bytes_of, check_text, shelf_of};
 use payments::MemoryShelf;
 use std::alloc::Global;
+use std::process::Abort;
 use std::str;
 use std::sync::Wait;
 use std::thread::Threads;
@@ -49,20 +50,20 @@ fn is_done(said: Result<Said, NoMemory>) -> bool {
     }
 }
 
-// Whether `verify` ends so over these files and this audit.
-fn is_said<R>(
-    rt: &R,
-    alloc: Global,
-    input: Input<'_>,
-    audit: &str,
-    wanted: (u8, &str),
-) -> Result<bool, NoMemory>
+// What `verify` ends with over these files and this audit.
+fn said_of<R>(rt: &R, alloc: Global, input: Input<'_>, audit: &str) -> Result<Said, NoMemory>
 where
     R: Threads + Wait + Copy + Send + Sync + 'static,
 {
     let mut shelf = shelf_of(alloc, input)?;
     put_text(alloc, AUDIT, audit, &mut shelf)?;
-    Ok(verify(rt, alloc, &mut shelf)?.is(wanted.0, wanted.1))
+    verify(rt, alloc, &mut shelf)
+}
+
+fn check_said(rt: &impl Abort, said: Result<Said, NoMemory>, status: u8, printed: &str) {
+    let said = said.expect(rt, "memory");
+    check_text(rt, said.out.written(), printed);
+    assert_eq!(rt; said.status, status);
 }
 
 const ON_FOUR: Input<'static> = Input {
@@ -73,42 +74,48 @@ const ON_FOUR: Input<'static> = Input {
     capacity: "16",
 };
 
-// Whether the audit of a run is verified. Then, whether one with another count of ann's isn't.
-fn are_counted<R>(rt: &R, alloc: Global) -> Result<bool, NoMemory>
+// The shelf with the audit of a run on four threads.
+fn shelf_of_four<R>(rt: &R) -> Result<MemoryShelf, NoMemory>
 where
-    R: Threads + Wait + Copy + Send + Sync + 'static,
+    R: AllocGlobal + Abort + Threads + Wait + Copy + Send + Sync + 'static,
 {
-    let mut shelf = shelf_of(alloc, ON_FOUR)?;
-    let has_run = run_with(rt, alloc, ON_FOUR, &mut shelf);
-    let lines = "verified\nrows 10 alerts 4 requests 3 refused 1\n";
-    let is_verified = verify(rt, alloc, &mut shelf)?.is(8, lines);
-    let audit = bytes_of(file(alloc, &shelf, AUDIT));
-    Ok(has_run && is_verified && is_miscounted(rt, alloc, audit))
+    let mut shelf = shelf_of(rt.alloc(), ON_FOUR)?;
+    let has_run = run_with(rt, rt.alloc(), ON_FOUR, &mut shelf);
+    assert!(rt; has_run, "no run");
+    Ok(shelf)
 }
 
-fn is_miscounted<R>(rt: &R, alloc: Global, audit: &[u8]) -> bool
+// The same audit with another count of ann's.
+fn miscounted(alloc: Global, shelf: &MemoryShelf) -> Option<String> {
+    let text = str::from_utf8(bytes_of(file(alloc, shelf, AUDIT))).ok()?;
+    let (before, after) = text.split_once("state,tally,1,,2,ann\n")?;
+    format!(in alloc; "{before}state,tally,1,,3,ann\n{after}").ok()
+}
+
+fn check_miscounted<R>(rt: &R, audit: &str)
 where
-    R: Threads + Wait + Copy + Send + Sync + 'static,
+    R: AllocGlobal + Abort + Threads + Wait + Copy + Send + Sync + 'static,
 {
-    let Ok(text) = str::from_utf8(audit) else {
-        return false;
-    };
-    let Some((before, after)) = text.split_once("state,tally,1,,2,ann\n") else {
-        return false;
-    };
-    let Ok(other) = format!(in alloc; "{before}state,tally,1,,3,ann\n{after}") else {
-        return false;
-    };
-    let wanted = (11, "fault 11 V6 worker 4\n");
-    matches!(
-        is_said(rt, alloc, ON_FOUR, other.as_str(), wanted),
-        Ok(true)
-    )
+    let said = said_of(rt, rt.alloc(), ON_FOUR, audit);
+    check_said(rt, said, 11, "fault 11 V6 worker 4\n");
 }
 
 #[test]
 fn verify_payments(rt: HostRuntime) {
-    assert!(rt; matches!(are_counted(&rt, rt.alloc()), Ok(true)));
+    let mut shelf = shelf_of_four(&rt).expect(&rt, "memory");
+    let said = verify(&rt, rt.alloc(), &mut shelf);
+    check_said(
+        &rt,
+        said,
+        8,
+        "verified\nrows 10 alerts 4 requests 3 refused 1\n",
+    );
+    check_miscounted(
+        &rt,
+        miscounted(rt.alloc(), &shelf)
+            .expect(&rt, "a count")
+            .as_str(),
+    );
 }
 
 const THREADS: [&str; 4] = ["1", "2", "4", "16"];
@@ -146,5 +153,5 @@ where
 
 #[test]
 fn audits_of_random_runs_are_verified(rt: HostRuntime) {
-    assert!(rt; matches!(unverified(&rt, rt.alloc(), 25), Ok(0)));
+    assert_eq!(rt; unverified(&rt, rt.alloc(), 25), Ok(0));
 }

@@ -1,4 +1,4 @@
-use crate::tests::{JOB, is_told};
+use crate::tests::{JOB, check_told, check_told_after, told_of};
 use audit_fault::AuditFault;
 use fries_lines::Fault;
 use std::alloc::Global;
@@ -66,26 +66,17 @@ const VERIFY: &[&str] = &[
 
 const FILES: &[(&str, &str)] = &[("job.toml", JOB), ("audit.csv", "feed\nfed\n")];
 
-// Whether this is told of a fault of the audit.
-fn is_case(alloc: Global, fault: AuditFault, told: &str) -> Result<bool, NoMemory> {
-    let told = format!(in alloc; "fries: audit file `audit.csv`: {told}")?;
-    is_told(
-        alloc,
-        FILES,
-        VERIFY,
-        Some(Fault::Audit(fault)),
-        &[],
-        told.as_str(),
-    )
+/// What stands before all that is told of a fault of the audit.
+const HEAD: &str = "fries: audit file `audit.csv`: ";
+
+fn told_of_case(alloc: Global, fault: AuditFault) -> Result<String, NoMemory> {
+    told_of(alloc, FILES, VERIFY, Some(Fault::Audit(fault)), &[])
 }
 
 #[test]
 fn workers_and_lanes_are_told_by_their_nodes(rt: HostRuntime) {
     for (fault, told) in CASES {
-        assert!(rt;
-            matches!(is_case(rt.alloc(), *fault, told), Ok(true)),
-            "{told}"
-        );
+        check_told_after(&rt, HEAD, told_of_case(rt.alloc(), *fault), told);
     }
 }
 
@@ -116,8 +107,11 @@ const VERIFY_PARTS: &[&str] = &[
 fn records_of_parts_are_told_by_their_lines(rt: HostRuntime) {
     let fault = Some(Fault::Audit(AuditFault::Feed(1)));
     let files = &[("job.toml", JOB), ("audit.csv", PARTS)];
-    let told = is_told(rt.alloc(), files, VERIFY_PARTS, fault, &[], OF_PARTS);
-    assert!(rt; matches!(told, Ok(true)));
+    check_told(
+        &rt,
+        told_of(rt.alloc(), files, VERIFY_PARTS, fault, &[]),
+        OF_PARTS,
+    );
 }
 
 const VERIFY_ALERTS: &[&str] = &[
@@ -137,6 +131,9 @@ const OTHER_ALERTS: &str = "fries: alerts file `alerts.csv`: V7 line 3
 #[test]
 fn alerts_of_another_run_are_told(rt: HostRuntime) {
     let fault = Some(Fault::Alerts(3));
-    let told = is_told(rt.alloc(), FILES, VERIFY_ALERTS, fault, &[], OTHER_ALERTS);
-    assert!(rt; matches!(told, Ok(true)));
+    check_told(
+        &rt,
+        told_of(rt.alloc(), FILES, VERIFY_ALERTS, fault, &[]),
+        OTHER_ALERTS,
+    );
 }

@@ -1,4 +1,4 @@
-use crate::tests::{RUN, is_told};
+use crate::tests::{RUN, check_told, told_of};
 use fries_lines::{Fault, FileIs};
 use job_file::JobFault;
 use payments::PFault;
@@ -169,9 +169,6 @@ ALERTS, AUDIT are missing. Type `fries run --help`.
 #[test]
 fn faults_without_a_place_are_told(rt: HostRuntime) {
     for (words, fault, told) in CASES {
-        assert!(rt;
-            matches!(is_told(rt.alloc(), &[], words, *fault, &[], told), Ok(true)),
-            "{told}"
-        );
+        check_told(&rt, told_of(rt.alloc(), &[], words, *fault, &[]), told);
     }
 }

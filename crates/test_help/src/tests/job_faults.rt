@@ -1,4 +1,4 @@
-use crate::tests::{Case, JOB, RUN, is_told, with};
+use crate::tests::{Case, JOB, RUN, check_told, told_of, with};
 use fries_lines::Fault;
 use job_file::read_job;
 use std::alloc::Global;
@@ -284,23 +284,19 @@ from = "c""#,
     },
 ];
 
-// Whether the fault of this job file has its sentences.
-fn is_case(alloc: Global, case: Case) -> Result<bool, NoMemory> {
+// What is told of the fault of this job file. Nothing is, if it has none.
+fn told_of_case(alloc: Global, case: Case) -> Result<String, NoMemory> {
     let text = with(alloc, JOB, case)?;
     let Err(fault) = read_job(alloc, text.as_bytes()) else {
-        return Ok(false);
+        return Ok(String::new(alloc));
     };
     let files = [("job.toml", text.as_str())];
-    is_told(alloc, &files, RUN, Some(Fault::Job(fault)), &[], case.told)
+    told_of(alloc, &files, RUN, Some(Fault::Job(fault)), &[])
 }
 
 #[test]
 fn each_fault_of_a_job_is_told(rt: HostRuntime) {
     for case in CASES {
-        assert!(rt;
-            matches!(is_case(rt.alloc(), *case), Ok(true)),
-            "{}",
-            case.told
-        );
+        check_told(&rt, told_of_case(rt.alloc(), *case), case.told);
     }
 }

@@ -1,4 +1,4 @@
-use crate::tests::{Case, JOB, RUN, is_told, with};
+use crate::tests::{Case, JOB, RUN, check_told, check_told_after, told_of, with};
 use fries_lines::Fault;
 use job_file::{read_job, read_requests};
 use std::alloc::Global;
@@ -197,24 +197,17 @@ when = []
     },
 ];
 
-// Whether the fault of this request file has its sentences.
-fn is_fault(alloc: Global, case: Case) -> Result<bool, NoMemory> {
+// What is told of the fault of this request file. Nothing is, if it has none.
+fn told_of_fault(alloc: Global, case: Case) -> Result<String, NoMemory> {
     let text = with(alloc, REQUESTS, case)?;
     let Ok(job) = read_job(alloc, JOB.as_bytes()) else {
         return Err(NoMemory);
     };
     let Err(fault) = read_requests(alloc, &job, text.as_bytes()) else {
-        return Ok(false);
+        return Ok(String::new(alloc));
     };
     let files = [("requests.toml", text.as_str())];
-    is_told(
-        alloc,
-        &files,
-        RUN,
-        Some(Fault::Requests(fault)),
-        &[],
-        case.told,
-    )
+    told_of(alloc, &files, RUN, Some(Fault::Requests(fault)), &[])
 }
 
 /// What stands after the job in a job file that has a table.
@@ -289,72 +282,57 @@ The job's columns are `account:text`, `amount:cents`, `seen:number:own`.
     },
 ];
 
-// Whether what is refused of this request file has its sentences.
-fn is_refusal(alloc: Global, case: Case) -> Result<bool, NoMemory> {
-    is_refusal_of(alloc, JOB, case)
+// What is told of the requests that are refused. Nothing is, if their file has a fault.
+fn told_of_refusal(alloc: Global, case: Case) -> Result<String, NoMemory> {
+    told_of_job(alloc, JOB, case)
 }
 
 // The same over a job file that has a table.
-fn is_refusal_with_table(alloc: Global, case: Case) -> Result<bool, NoMemory> {
+fn told_with_table(alloc: Global, case: Case) -> Result<String, NoMemory> {
     let job = format!(in alloc; "{JOB}{TABLE}")?;
-    is_refusal_of(alloc, job.as_str(), case)
+    told_of_job(alloc, job.as_str(), case)
 }
 
-fn is_refusal_of(alloc: Global, job_text: &str, case: Case) -> Result<bool, NoMemory> {
+fn told_of_job(alloc: Global, job_text: &str, case: Case) -> Result<String, NoMemory> {
     let text = with(alloc, REQUESTS, case)?;
     let Ok(job) = read_job(alloc, job_text.as_bytes()) else {
         return Err(NoMemory);
     };
     let Ok(requests) = read_requests(alloc, &job, text.as_bytes()) else {
-        return Ok(false);
+        return Ok(String::new(alloc));
     };
     let judged = judge_all(alloc, &job, &requests)?;
-    let refused = judged.refused.as_slice();
-    is_told_of(alloc, job_text, text.as_str(), refused, case.told)
+    told_of_files(alloc, job_text, text.as_str(), judged.refused.as_slice())
 }
 
-// Whether this is told of the refused requests of these files.
-fn is_told_of<'a>(
+// What is told of the refused requests of these files.
+fn told_of_files<'a>(
     alloc: Global,
     job: &'a str,
     requests: &'a str,
     refused: &[Refused],
-    told: &str,
-) -> Result<bool, NoMemory> {
-    let told = format!(in alloc; "{HEAD}{told}")?;
+) -> Result<String, NoMemory> {
     let files = [("requests.toml", requests), ("job.toml", job)];
-    is_told(alloc, &files, RUN, None, refused, told.as_str())
+    told_of(alloc, &files, RUN, None, refused)
 }
 
 #[test]
 fn each_fault_of_a_request_file_is_told(rt: HostRuntime) {
     for case in FAULTS {
-        assert!(rt;
-            matches!(is_fault(rt.alloc(), *case), Ok(true)),
-            "{}",
-            case.told
-        );
+        check_told(&rt, told_of_fault(rt.alloc(), *case), case.told);
     }
 }
 
 #[test]
 fn each_refused_request_is_told(rt: HostRuntime) {
     for case in REFUSALS {
-        assert!(rt;
-            matches!(is_refusal(rt.alloc(), *case), Ok(true)),
-            "{}",
-            case.told
-        );
+        check_told_after(&rt, HEAD, told_of_refusal(rt.alloc(), *case), case.told);
     }
 }
 
 #[test]
 fn values_that_do_not_fit_a_column_are_told(rt: HostRuntime) {
     for case in REFUSALS_WITH_TABLE {
-        assert!(rt;
-            matches!(is_refusal_with_table(rt.alloc(), *case), Ok(true)),
-            "{}",
-            case.told
-        );
+        check_told_after(&rt, HEAD, told_with_table(rt.alloc(), *case), case.told);
     }
 }

@@ -1,4 +1,4 @@
-use crate::tests::{Case, JOB, RUN, is_told, with};
+use crate::tests::{Case, JOB, RUN, check_told, check_told_after, told_of, with};
 use fries_lines::Fault;
 use job_file::read_job;
 use payments::{PFault, read_rows};
@@ -76,31 +76,27 @@ const CASES: &[Case] = &[
     },
 ];
 
-// Whether the fault of this payments file has its sentences.
-fn is_case(alloc: Global, case: Case) -> Result<bool, NoMemory> {
+// What is told of the fault of this payments file. Nothing is, if it has none.
+fn told_of_case(alloc: Global, case: Case) -> Result<String, NoMemory> {
     let text = with(alloc, ROWS, case)?;
     let Ok(job) = read_job(alloc, JOB.as_bytes()) else {
         return Err(NoMemory);
     };
     let Err(fault) = read_rows(alloc, &job, text.as_bytes()) else {
-        return Ok(false);
+        return Ok(String::new(alloc));
     };
-    is_told_of(alloc, text.as_str(), fault, case.told)
+    told_of_rows(alloc, text.as_str(), fault)
 }
 
-fn is_told_of(alloc: Global, text: &str, fault: PFault, told: &str) -> Result<bool, NoMemory> {
+fn told_of_rows(alloc: Global, text: &str, fault: PFault) -> Result<String, NoMemory> {
     let files = [("job.toml", JOB), ("pay.csv", text)];
-    is_told(alloc, &files, RUN, Some(Fault::Payments(fault)), &[], told)
+    told_of(alloc, &files, RUN, Some(Fault::Payments(fault)), &[])
 }
 
 #[test]
 fn each_fault_of_a_payments_file_is_told(rt: HostRuntime) {
     for case in CASES {
-        assert!(rt;
-            matches!(is_case(rt.alloc(), *case), Ok(true)),
-            "{}",
-            case.told
-        );
+        check_told(&rt, told_of_case(rt.alloc(), *case), case.told);
     }
 }
 
@@ -144,21 +140,19 @@ const CASES_OF_FIRST: &[(PFault, &str)] = &[
     ),
 ];
 
-fn is_case_of_first(alloc: Global, fault: PFault, told: &str) -> Result<bool, NoMemory> {
-    let told = format!(in alloc; "fries: payments file `p`: {told}")?;
+/// What stands before all that is told of them.
+const HEAD_OF_FIRST: &str = "fries: payments file `p`: ";
+
+fn told_of_first(alloc: Global, fault: PFault) -> Result<String, NoMemory> {
     let words = ["first", "p", "a", "1", "2", "3"];
     let files = [("p", ROWS_OF_FIRST)];
-    let fault = Some(Fault::Payments(fault));
-    is_told(alloc, &files, &words, fault, &[], told.as_str())
+    told_of(alloc, &files, &words, Some(Fault::Payments(fault)), &[])
 }
 
 #[test]
 fn faults_of_the_payments_of_first_are_told(rt: HostRuntime) {
     for (fault, told) in CASES_OF_FIRST {
-        assert!(rt;
-            matches!(is_case_of_first(rt.alloc(), *fault, told), Ok(true)),
-            "{told}"
-        );
+        check_told_after(&rt, HEAD_OF_FIRST, told_of_first(rt.alloc(), *fault), told);
     }
 }
 
@@ -169,8 +163,11 @@ fn too_many_rows_are_told(rt: HostRuntime) {
   The weight is 2, so 524288 rows are the most.
   Run fewer rows at a time (docs/SAVEPOINTS.md, Long files), or make the job lighter.
 ";
-    let told = is_told_of(rt.alloc(), ROWS, PFault::TooMuch(524_289), told);
-    assert!(rt; matches!(told, Ok(true)));
+    check_told(
+        &rt,
+        told_of_rows(rt.alloc(), ROWS, PFault::TooMuch(524_289)),
+        told,
+    );
 }
 
 #[test]
@@ -182,6 +179,9 @@ fn too_many_rows_of_make_are_told(rt: HostRuntime) {
 ";
     let words = ["make", "job.toml", "--threads=2", "7", "524289"];
     let fault = Some(Fault::Payments(PFault::TooMuch(524_289)));
-    let told = is_told(rt.alloc(), &[("job.toml", JOB)], &words, fault, &[], told);
-    assert!(rt; matches!(told, Ok(true)));
+    check_told(
+        &rt,
+        told_of(rt.alloc(), &[("job.toml", JOB)], &words, fault, &[]),
+        told,
+    );
 }

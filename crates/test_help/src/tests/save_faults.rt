@@ -1,4 +1,4 @@
-use crate::tests::is_told;
+use crate::tests::{check_told, told_of};
 use fries_help::skipped_rows;
 use fries_lines::{Fault, FileIs};
 use savepoint::SaveFault;
@@ -66,22 +66,15 @@ const RESUME: &[&str] = &[
     "audit.csv",
 ];
 
-fn is_case(alloc: Global, fault: Fault, told: &str) -> Result<bool, NoMemory> {
-    is_told(alloc, &[("save.csv", SAVE)], RESUME, Some(fault), &[], told)
+fn told_of_case(alloc: Global, fault: Fault) -> Result<String, NoMemory> {
+    told_of(alloc, &[("save.csv", SAVE)], RESUME, Some(fault), &[])
 }
 
 #[test]
 fn each_fault_of_a_savepoint_is_told(rt: HostRuntime) {
     for (fault, told) in CASES {
-        assert!(rt;
-            matches!(is_case(rt.alloc(), *fault, told), Ok(true)),
-            "{told}"
-        );
+        check_told(&rt, told_of_case(rt.alloc(), *fault), told);
     }
-}
-
-fn is_told_of_rows(alloc: Global, row: u64, told: &str) -> Result<bool, NoMemory> {
-    Ok(skipped_rows(alloc, row)?.as_str() == told)
 }
 
 #[test]
@@ -101,9 +94,6 @@ fn the_skipped_rows_of_resume_are_told(rt: HostRuntime) {
         ),
     ];
     for (row, told) in &cases {
-        assert!(rt;
-            matches!(is_told_of_rows(rt.alloc(), *row, told), Ok(true)),
-            "{told}"
-        );
+        check_told(&rt, skipped_rows(rt.alloc(), *row), told);
     }
 }

@@ -1,4 +1,4 @@
-use crate::tests::{is_told, shelf_of, words_of};
+use crate::tests::{check_told, check_told_after, shelf_of, told_of, words_of};
 use fries_help::{Call, ShelfLook, advice};
 use fries_help_words::{opening, word_fault};
 use fries_lines::Fault;
@@ -136,50 +136,45 @@ Type `fries check --help`.",
     ),
 ];
 
-fn is_case(alloc: Global, words: &[&str], told: &str) -> Result<bool, NoMemory> {
+fn told_of_words(alloc: Global, words: &[&str]) -> Result<String, NoMemory> {
     let words = words_of(alloc, words)?;
-    let fault = word_fault(alloc, words.as_slice())?;
-    Ok(fault.as_str() == told)
+    Ok(word_fault(alloc, words.as_slice())?)
 }
 
 #[test]
 fn the_first_wrong_word_is_told(rt: HostRuntime) {
     for (words, told) in CASES {
-        assert!(rt;
-            matches!(is_case(rt.alloc(), words, told), Ok(true)),
-            "{told}"
-        );
+        check_told(&rt, told_of_words(rt.alloc(), words), told);
     }
 }
 
-// Whether no words are told with the help of the program before the fault.
-fn is_opened_by_help(alloc: Global) -> Result<bool, NoMemory> {
-    let help = opening(&[]);
-    let told = format!(in alloc;
-        "{help}
+const NO_WORDS: &str = "
 fries: usage
   These words have no form that the program knows.
   No command is named.
   Type `fries --help` for the forms of all commands.
-"
-    )?;
-    is_told(alloc, &[], &[], Some(Fault::Usage), &[], told.as_str())
-}
+";
 
 #[test]
 fn no_words_are_told_with_the_help(rt: HostRuntime) {
-    assert!(rt; matches!(is_opened_by_help(rt.alloc()), Ok(true)));
+    let told = told_of(rt.alloc(), &[], &[], Some(Fault::Usage), &[]);
+    check_told_after(&rt, opening(&[]), told, NO_WORDS);
 }
 
-// Whether it is told that this word of a call isn't UTF-8.
-fn is_told_of_word(alloc: Global, place: usize) -> Result<bool, NoMemory> {
-    let told = format!(in alloc;
-        "fries: usage
+const WORD_0: &str = "fries: usage
   These words have no form that the program knows.
-  Word {place} isn't UTF-8; the name of the program is word 0.
+  Word 0 isn't UTF-8; the name of the program is word 0.
   Type `fries --help` for the forms of all commands.
-"
-    )?;
+";
+
+const WORD_2: &str = "fries: usage
+  These words have no form that the program knows.
+  Word 2 isn't UTF-8; the name of the program is word 0.
+  Type `fries --help` for the forms of all commands.
+";
+
+// What is told of a call of which this word isn't UTF-8.
+fn told_of_word(alloc: Global, place: usize) -> Result<String, NoMemory> {
     let mut shelf = shelf_of(alloc, &[])?;
     let call = Call {
         words: &[],
@@ -187,12 +182,11 @@ fn is_told_of_word(alloc: Global, place: usize) -> Result<bool, NoMemory> {
         fault: Some(Fault::Usage),
         refused: &[],
     };
-    let text = advice(alloc, call, &mut ShelfLook { shelf: &mut shelf })?;
-    Ok(text.as_str() == told.as_str())
+    advice(alloc, call, &mut ShelfLook { shelf: &mut shelf })
 }
 
 #[test]
 fn a_word_that_is_not_utf_8_is_told_by_its_place(rt: HostRuntime) {
-    assert!(rt; matches!(is_told_of_word(rt.alloc(), 0), Ok(true)));
-    assert!(rt; matches!(is_told_of_word(rt.alloc(), 2), Ok(true)));
+    check_told(&rt, told_of_word(rt.alloc(), 0), WORD_0);
+    check_told(&rt, told_of_word(rt.alloc(), 2), WORD_2);
 }

@@ -5,10 +5,12 @@ mod cut;
 mod sizes;
 pub mod texts;
 
+use crate::tests::check_text_of;
 use crate::tests::hostile::cut::Cuts;
 use fries_call::Outcome;
 use payments::{Calls, MemoryShelf, MemorySink};
 use std::alloc::Global;
+use std::process::Abort;
 use std::sync::Wait;
 use std::thread::Threads;
 use test_calls::{call, put, words_of};
@@ -82,7 +84,7 @@ pub enum Stored<'a> {
     Any,
     /// There is no file, or there is one.
     Made(bool),
-    Text(&'a [u8]),
+    Text(&'a str),
 }
 
 /// What a call of `run` is to leave. What is `None` isn't compared.
@@ -121,19 +123,23 @@ impl<'a> Left<'a> {
     }
 }
 
-/// Whether a call with these words left this.
-fn has_left(
+/// Asserts that a call with these words left this.
+fn check_outcome(
+    rt: &impl Abort,
+    what: &str,
     outcome: &Outcome,
-    words: &[Word],
-    shelf: &MemoryShelf,
-    out: &[u8],
+    (words, shelf, out): (&[Word], &MemoryShelf, &[u8]),
     left: &Left<'_>,
-) -> bool {
-    outcome.status == left.status
-        && is_wanted(outcome.ran.is_some(), left.has_run)
-        && is_printed(out, left.out)
-        && is_stored(file(words, ALERTS, shelf), left.alerts)
-        && is_stored(file(words, AUDIT, shelf), left.audit)
+) {
+    if let Some(line) = left.out {
+        check_text_of(rt, what, out, line);
+    }
+    assert_eq!(rt; outcome.status, left.status, "{what}");
+    if let Some(has_run) = left.has_run {
+        assert_eq!(rt; outcome.ran.is_some(), has_run, "{what}: a run");
+    }
+    check_stored(rt, what, file(words, ALERTS, shelf), left.alerts);
+    check_stored(rt, what, file(words, AUDIT, shelf), left.audit);
 }
 
 /// What stands under the word at this place.
@@ -144,54 +150,40 @@ fn file<'a>(words: &[Word], place: usize, shelf: &'a MemoryShelf) -> Option<&'a 
     }
 }
 
-fn is_wanted(has_run: bool, wanted: Option<bool>) -> bool {
-    match wanted {
-        Some(wanted) => has_run == wanted,
-        None => true,
-    }
-}
-
-fn is_printed(out: &[u8], wanted: Option<&str>) -> bool {
-    match wanted {
-        Some(wanted) => out == wanted.as_bytes(),
-        None => true,
-    }
-}
-
-fn is_stored(file: Option<&Bytes>, wanted: Stored<'_>) -> bool {
+fn check_stored(rt: &impl Abort, what: &str, file: Option<&Bytes>, wanted: Stored<'_>) {
     match (file, wanted) {
-        (_, Stored::Any) => true,
-        (file, Stored::Made(made)) => file.is_some() == made,
-        (Some(bytes), Stored::Text(text)) => bytes.as_slice() == text,
-        (None, Stored::Text(_)) => false,
+        (_, Stored::Any) => {}
+        (file, Stored::Made(made)) => assert_eq!(rt; file.is_some(), made, "{what}: a file"),
+        (Some(bytes), Stored::Text(text)) => check_text_of(rt, what, bytes.as_slice(), text),
+        (None, Stored::Text(_)) => assert!(rt; false, "{what}: no file"),
     }
 }
 
-/// Whether a call of `run` leaves this.
-pub fn leaves<R>(rt: &R, alloc: Global, around: &Around<'_>, left: &Left<'_>) -> bool
+/// Asserts that a call of `run` leaves this.
+pub fn check_left<R>(rt: &R, what: &str, around: &Around<'_>, left: &Left<'_>)
 where
-    R: Threads + Wait + Copy + Send + Sync + 'static,
+    R: AllocGlobal + Abort + Threads + Wait + Copy + Send + Sync + 'static,
 {
-    match words_of(alloc, &RUN) {
-        Ok(words) => matches!(is_left(rt, alloc, around, &words, left), Ok(true)),
-        Err(_) => false,
-    }
+    let words = words_of(rt.alloc(), &RUN).expect(rt, "memory");
+    check_words(rt, what, around, &words, left).expect(rt, "memory");
 }
 
-fn is_left<R>(
+fn check_words<R>(
     rt: &R,
-    alloc: Global,
+    what: &str,
     around: &Around<'_>,
     words: &[Word],
     left: &Left<'_>,
-) -> Result<bool, NoMemory>
+) -> Result<(), NoMemory>
 where
-    R: Threads + Wait + Copy + Send + Sync + 'static,
+    R: AllocGlobal + Abort + Threads + Wait + Copy + Send + Sync + 'static,
 {
+    let alloc = rt.alloc();
     let mut shelf = shelf_of(alloc, around)?;
     let mut out = MemorySink::new(alloc, calls_of(alloc, around.refusing)?);
     let outcome = call(rt, alloc, words, &mut shelf, &mut out, &OpenGate)?;
-    Ok(has_left(&outcome, words, &shelf, out.written(), left))
+    check_outcome(rt, what, &outcome, (words, &shelf, out.written()), left);
+    Ok(())
 }
 
 /// Calls of which each has a number.
@@ -231,17 +223,20 @@ impl Tried {
     }
 }
 
-/// The number of the first call that leaves something else than it is to leave.
-pub fn first_wrong<R>(rt: &R, alloc: Global, tried: Tried) -> Option<usize>
+/// Asserts that each call leaves what it is to leave. A failure shows `what`, and its number.
+pub fn check_tried<R>(rt: &R, what: &str, tried: Tried)
 where
-    R: Threads + Wait + Copy + Send + Sync + 'static,
+    R: AllocGlobal + Abort + Threads + Wait + Copy + Send + Sync + 'static,
 {
     for number in 0..tried.count() {
-        if !leaves(rt, alloc, &tried.around(number), &tried.left(number)) {
-            return Some(number);
-        }
+        let what = format!(in rt.alloc(); "{what}, number {number}").expect(rt, "memory");
+        check_left(
+            rt,
+            what.as_str(),
+            &tried.around(number),
+            &tried.left(number),
+        );
     }
-    None
 }
 
 fn calls_of(alloc: Global, number: Option<u64>) -> Result<Calls, NoMemory> {

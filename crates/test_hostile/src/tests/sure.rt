@@ -1,7 +1,10 @@
 //! Calls of `run` over files and an output that never refuse.
 use crate::tests::hostile::RUN;
+use crate::tests::{check_text, check_text_of};
+use fries_call::Outcome;
 use payments::{SureShelf, SureSink};
 use std::alloc::Global;
+use std::process::Abort;
 use std::sync::Wait;
 use std::thread::Threads;
 use test_calls::{call_sure, word, words_of};
@@ -15,18 +18,18 @@ const FILES: [(&str, &str); 3] = [
     ("payments.csv", FOUR_PAYMENTS),
 ];
 
-/// Whether `run` over these files ends with this status and prints this line. If there is a text of
-/// the alerts, then they and the audit are to be those of the four payments.
-fn leaves<'a, R>(
+/// Asserts that `run` over these files ends with this status and prints this line. If there is a
+/// text of the alerts, then they and the audit are to be those of the four payments.
+fn check_run<'a, R>(
     rt: &R,
-    alloc: Global,
     files: &'a [(&'a str, &'a str)],
     (status, line): (u8, &'a str),
     alerts: Option<&'a str>,
-) -> Result<bool, NoMemory>
+) -> Result<(), NoMemory>
 where
-    R: Threads + Wait + Copy + Send + Sync + 'static,
+    R: AllocGlobal + Abort + Threads + Wait + Copy + Send + Sync + 'static,
 {
+    let alloc = rt.alloc();
     let mut shelf = shelf_of(alloc, files)?;
     let mut out = SureSink::new(alloc);
     let outcome = call_sure(rt, alloc, &words_of(alloc, &RUN)?, &mut shelf, &mut out)?;
@@ -34,12 +37,15 @@ where
         Some(_) => Some(AUDIT_OF_FOUR),
         None => None,
     };
-    Ok(
-        outcome.status == status
-            && out.written() == line.as_bytes()
-            && is_stored(alloc, &shelf, "alerts.csv", alerts)?
-            && is_stored(alloc, &shelf, "audit.csv", audit)?,
-    )
+    check_text(rt, out.written(), line);
+    check_status(rt, &outcome, status);
+    check_stored(rt, &shelf, "alerts.csv", alerts);
+    check_stored(rt, &shelf, "audit.csv", audit);
+    Ok(())
+}
+
+fn check_status(rt: &impl Abort, outcome: &Outcome, status: u8) {
+    assert_eq!(rt; outcome.status, status);
 }
 
 fn shelf_of<'a>(alloc: Global, files: &'a [(&'a str, &'a str)]) -> Result<SureShelf, NoMemory> {
@@ -53,29 +59,28 @@ fn shelf_of<'a>(alloc: Global, files: &'a [(&'a str, &'a str)]) -> Result<SureSh
     Ok(shelf)
 }
 
-fn is_stored(
-    alloc: Global,
+fn check_stored(
+    rt: &(impl AllocGlobal + Abort),
     shelf: &SureShelf,
     name: &str,
     text: Option<&str>,
-) -> Result<bool, NoMemory> {
-    Ok(match (shelf.get(&word(alloc, name)?), text) {
-        (Some(bytes), Some(text)) => bytes.as_slice() == text.as_bytes(),
-        (None, None) => true,
-        _ => false,
-    })
+) {
+    let word = word(rt.alloc(), name).expect(rt, "memory");
+    match (shelf.get(&word), text) {
+        (Some(bytes), Some(text)) => check_text_of(rt, name, bytes.as_slice(), text),
+        (found, wanted) => assert_eq!(rt; found.is_some(), wanted.is_some(), "{name}"),
+    }
 }
 
 #[test]
 fn sure_files(rt: HostRuntime) {
     let line = (0, "rows 4 alerts 2 requests 0 refused 0\n");
-    let left = leaves(&rt, rt.alloc(), &FILES, line, Some(TWO_ALERTS));
-    assert!(rt; matches!(left, Ok(true)));
+    check_run(&rt, &FILES, line, Some(TWO_ALERTS)).expect(&rt, "memory");
 }
 
 /// A name without a file is read as an empty file.
 #[test]
 fn no_file_at_all(rt: HostRuntime) {
     let line = (2, "fault 2 J2 columns\n");
-    assert!(rt; matches!(leaves(&rt, rt.alloc(), &[], line, None), Ok(true)));
+    check_run(&rt, &[], line, None).expect(&rt, "memory");
 }

@@ -21,7 +21,10 @@ fn cycle_is_refused(rt: HostRuntime) {
     let outside = fault(rt.alloc(), 2, &[edge(0, 5)]);
     assert_eq!(rt; outside, Some(DagFault::NodeRange(0)));
     let ring = fault(rt.alloc(), 3, &[edge(0, 1), edge(1, 2), edge(2, 0)]);
-    assert!(rt; matches!(ring, Some(DagFault::Cycle(node)) if node < 3));
+    assert!(rt;
+        matches!(ring, Some(DagFault::Cycle(node)) if node < 3),
+        "{ring:?}"
+    );
     let itself = fault(rt.alloc(), 2, &[edge(0, 1), edge(1, 1)]);
     assert_eq!(rt; itself, Some(DagFault::Cycle(1)));
 }
@@ -107,9 +110,10 @@ fn order_against_the_numbers(rt: HostRuntime) {
 
 #[test]
 fn bits(rt: HostRuntime) {
-    assert!(rt; has_bit(1 << 63, 63) && !has_bit(1 << 63, 0));
+    assert_eq!(rt; (has_bit(1 << 63, 63), has_bit(1 << 63, 0)), (true, false));
     assert_eq!(rt; with_bit(1, 63), 1 << 63 | 1);
-    assert!(rt; has_wide_bit(1 << 127, 127) && !has_wide_bit(1 << 127, 63));
+    let wide = (has_wide_bit(1 << 127, 127), has_wide_bit(1 << 127, 63));
+    assert_eq!(rt; wide, (true, false));
     assert_eq!(rt; with_wide_bit(1, 127), 1 << 127 | 1);
 }
 
@@ -118,5 +122,5 @@ fn pairs_turned_round(rt: HostRuntime) {
     let mut rows = [0u64; 64];
     rows[0] = 1 << 63;
     let turned = transposed(&rows);
-    assert!(rt; turned[0] == 0 && turned[63] == 1);
+    assert_eq!(rt; (turned[0], turned[63]), (0, 1));
 }

@@ -23,12 +23,8 @@ fn heard_of(
 
 #[test]
 fn hear_one_line(rt: HostRuntime) {
-    assert!(rt;
-        matches!(
-            heard_of(rt.alloc(), b"x\n\n", &[], 1),
-            Ok((1, false, 1, (1, 0)))
-        )
-    );
+    let found = heard_of(rt.alloc(), b"x\n\n", &[], 1);
+    assert_eq!(rt; found, Ok((1, false, 1, (1, 0))));
 }
 
 // (bytes, failing calls, most, releases, failed, bytes left)
@@ -46,7 +42,7 @@ fn hear_to_the_end_or_a_failure(rt: HostRuntime) {
     for (bytes, failing, most, releases, failed, left) in HEARD {
         let found = heard_of(rt.alloc(), bytes.as_bytes(), failing, most);
         let told = releases as u64;
-        assert!(rt; matches!(found, Ok(heard) if heard == (releases, failed, left, (told, 0))));
+        assert_eq!(rt; found, Ok((releases, failed, left, (told, 0))));
     }
 }
 

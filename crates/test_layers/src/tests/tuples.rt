@@ -1,5 +1,7 @@
 // Tests of tuple_trace: values, tuples, rows and small types.
+use crate::tests::check_text;
 use std::alloc::Global;
+use std::process::Abort;
 use tuple_trace::{
     Births, Bytes, FeedRows, Fields, Gate, Items, NoMemory, OpenGate, Reserved, Row, Rows, Tuple,
     Txt, Value, Visit, Visits, Word, digits_up_to, number_in, spread, text_in,
@@ -75,21 +77,22 @@ fn child_is_well(alloc: Global) -> Result<bool, NoMemory> {
     Ok(is_child(&ann(alloc)?.child(2)?.visited(VISIT)?))
 }
 
-fn is_under(tuple: &Tuple, issued: u64) -> bool {
+fn sizes_of(tuple: &Tuple) -> (u64, u64, usize, usize) {
     (
         tuple.issued,
         tuple.row,
         tuple.birth.len(),
         tuple.fields.len(),
-    ) == (issued, 7, 1, 2)
+    )
 }
 
-fn under_is_well(alloc: Global) -> Result<bool, NoMemory> {
-    Ok(is_under(&ann(alloc)?.under(3)?, 3))
+// The request, the row, and how many births and fields a tuple has that is put under request 3.
+fn under(alloc: Global) -> Result<(u64, u64, usize, usize), NoMemory> {
+    Ok(sizes_of(&ann(alloc)?.under(3)?))
 }
 
-fn visiting_is_well(alloc: Global) -> Result<bool, NoMemory> {
-    Ok(ann(alloc)?.visiting(VISIT)?.trace.get(0).copied() == Some(VISIT))
+fn first_visit(alloc: Global) -> Result<Option<Visit>, NoMemory> {
+    Ok(ann(alloc)?.visiting(VISIT)?.trace.get(0).copied())
 }
 
 fn copy_is_well(alloc: Global) -> Result<bool, NoMemory> {
@@ -100,8 +103,8 @@ fn copy_is_well(alloc: Global) -> Result<bool, NoMemory> {
 fn tuples_grow_in_their_copies(rt: HostRuntime) {
     assert!(rt; matches!(child_is_well(rt.alloc()), Ok(true)));
     assert!(rt; matches!(copy_is_well(rt.alloc()), Ok(true)));
-    assert!(rt; matches!(under_is_well(rt.alloc()), Ok(true)));
-    assert!(rt; matches!(visiting_is_well(rt.alloc()), Ok(true)));
+    assert_eq!(rt; under(rt.alloc()), Ok((3, 7, 1, 2)));
+    assert_eq!(rt; first_visit(rt.alloc()), Ok(Some(VISIT)));
 }
 
 // Five births lie in the value, and six in memory of their own.
@@ -138,19 +141,19 @@ fn write_second(tuple: &mut Tuple, number: i64) -> Result<(), NoMemory> {
     Ok(())
 }
 
-// Whether two writes to a copy are seen there, and not in the tuple.
-fn write_is_well(alloc: Global) -> Result<bool, NoMemory> {
+// The second number of a copy after each of two writes, and that of the tuple.
+fn written(alloc: Global) -> Result<[Option<i64>; 3], NoMemory> {
     let ann = ann(alloc)?;
     let mut copy = ann.copy()?;
     write_second(&mut copy, 8)?;
     let once = second_of(&copy);
     write_second(&mut copy, 9)?;
-    Ok(once == Some(8) && second_of(&copy) == Some(9) && second_of(&ann) == Some(-5))
+    Ok([once, second_of(&copy), second_of(&ann)])
 }
 
 #[test]
 fn a_write_leaves_the_other_copies(rt: HostRuntime) {
-    assert!(rt; matches!(write_is_well(rt.alloc()), Ok(true)));
+    assert_eq!(rt; written(rt.alloc()), Ok([Some(8), Some(9), Some(-5)]));
 }
 
 fn kept_rows(alloc: Global) -> Result<usize, NoMemory> {
@@ -168,7 +171,7 @@ fn kept_rows(alloc: Global) -> Result<usize, NoMemory> {
 
 #[test]
 fn rows_are_kept_in_order(rt: HostRuntime) {
-    assert!(rt; matches!(kept_rows(rt.alloc()), Ok(1)));
+    assert_eq!(rt; kept_rows(rt.alloc()), Ok(1));
 }
 
 // The number of the row that is kept at a place.
@@ -251,40 +254,54 @@ fn reserved_is_well(alloc: Global) -> Result<bool, NoMemory> {
 }
 
 // A text of 3 bytes lies in the value, one of 14 too, and one of 15 elsewhere.
-fn text_is_well(alloc: Global, text: &[u8]) -> Result<bool, NoMemory> {
-    Ok(Txt::from_slice(alloc, text)?.copy()?.as_slice() == text)
+fn check_copy(rt: &(impl AllocGlobal + Abort), text: &str) {
+    let copy = copied(rt.alloc(), text.as_bytes()).expect(rt, "memory");
+    check_text(rt, copy.as_slice(), text);
 }
 
-fn word_is_well(alloc: Global) -> Result<bool, NoMemory> {
-    Ok(Word::from_string("run".to_string(alloc)?).copy()?.as_str() == "run")
+fn copied(alloc: Global, text: &[u8]) -> Result<Txt, NoMemory> {
+    Txt::from_slice(alloc, text)?.copy()
+}
+
+fn check_word(rt: &(impl AllocGlobal + Abort)) {
+    let copy = copied_word(rt.alloc(), "run").expect(rt, "memory");
+    check_text(rt, copy.as_str().as_bytes(), "run");
+}
+
+fn copied_word(alloc: Global, text: &str) -> Result<Word, NoMemory> {
+    Word::from_string(text.to_string(alloc)?).copy()
 }
 
 #[test]
 fn small_types_hold_what_they_are_given(rt: HostRuntime) {
     assert!(rt; matches!(bytes_are_well(rt.alloc()), Ok(true)));
     assert!(rt; items_are_well(rt.alloc()));
-    for text in [b"a b".as_slice(), b"fourteen bytes", b"fifteen  bytes!"] {
-        assert!(rt; matches!(text_is_well(rt.alloc(), text), Ok(true)));
+    for text in ["a b", "fourteen bytes", "fifteen  bytes!"] {
+        check_copy(&rt, text);
     }
     assert!(rt; matches!(reserved_is_well(rt.alloc()), Ok(true)));
-    assert!(rt; matches!(word_is_well(rt.alloc()), Ok(true)));
-    assert!(rt; Txt::new(rt.alloc()).as_slice().is_empty());
+    check_word(&rt);
+    check_text(&rt, Txt::new(rt.alloc()).as_slice(), "");
     OpenGate.pass(0, 0, 0);
     OpenGate.issued(1);
 }
 
-fn text_is_read(alloc: Global) -> Result<bool, NoMemory> {
-    let text = Value::Text(Txt::from_slice(alloc, b"ann")?);
-    Ok(number_in(Some(&text)) == 0 && text_in(Some(&text)) == b"ann".as_slice())
+// What a text is read as.
+fn check_read_text(rt: &(impl AllocGlobal + Abort)) {
+    let text = Value::Text(Txt::from_slice(rt.alloc(), b"ann").expect(rt, "memory"));
+    check_text(rt, text_in(Some(&text)), "ann");
+    assert_eq!(rt; number_in(Some(&text)), 0);
 }
 
-fn number_is_read() -> bool {
+// What a number is read as, and how long it is as a text.
+fn read_number() -> (i64, usize) {
     let number = Value::Num(-5);
-    number_in(Some(&number)) == -5 && text_in(Some(&number)).is_empty()
+    (number_in(Some(&number)), text_in(Some(&number)).len())
 }
 
 #[test]
 fn fields_are_read_by_what_is_asked(rt: HostRuntime) {
-    assert!(rt; matches!(text_is_read(rt.alloc()), Ok(true)));
-    assert!(rt; number_is_read() && number_in(None) == 0 && text_in(None).is_empty());
+    check_read_text(&rt);
+    assert_eq!(rt; read_number(), (-5, 0));
+    assert_eq!(rt; (number_in(None), text_in(None).len()), (0, 0));
 }

@@ -2,7 +2,8 @@
 ghost use Rattle.std.specs.Prelude.{◌≡◌, length};
 ghost use Rattle.jobs.specs.Nodes.{worker_count};
 
-use super::fixtures::{check_text, job_in, whole};
+use super::fixtures::{job_in, whole};
+use crate::tests::check_text;
 use jobs::{Job, worker_count};
 use payments::read_rows;
 use sink_journal::{Entry, Journal, Journals, alerts_header_text, alerts_part_text};

@@ -5,11 +5,12 @@ use super::cases::{
     TEXT_TESTS, UNCHANGED, ZERO_BARE, ZERO_TURNED,
 };
 use super::fixtures::{
-    BARE, GIVEN, ONE_WAY, TURNED, TWO_WAYS, check, check_text, job_of, lines_of_outputs, rows_of,
+    BARE, GIVEN, ONE_WAY, TURNED, TWO_WAYS, check, job_of, lines_of_outputs, rows_of,
 };
+use crate::tests::check_text;
 use jobs::{Columns, Func, Job, Lookup};
 use keyed_state::Keyed;
-use operators::{Outs, apply, lane_of, most_outputs, out_ports};
+use operators::{Outs, Visited, lane_of, most_outputs, out_ports};
 use std::process::Abort;
 use tuple_trace::{Row, Value, Visit};
 
@@ -27,18 +28,13 @@ fn lines_of(rt: &(impl AllocGlobal + Abort), job: &Job, func: &Func, rows: &[Row
     let mut counts = Keyed::new(rt.alloc());
     let mut outs = Outs::new(rt.alloc());
     for row in rows {
-        let (ports, tuple) = (ports.as_slice(), &row.tuple);
-        apply(
-            rt.alloc(),
+        let here = Visited {
             job,
-            ports,
-            VISIT,
-            func,
-            &mut counts,
-            tuple,
-            &mut outs,
-        )
-        .expect(rt, "memory");
+            ports: ports.as_slice(),
+            visit: VISIT,
+        };
+        here.apply(rt.alloc(), func, &mut counts, &row.tuple, &mut outs)
+            .expect(rt, "memory");
     }
     lines_of_outputs(rt, outs.as_slice())
 }

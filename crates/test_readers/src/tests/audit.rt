@@ -2,7 +2,8 @@
 ghost use Rattle.std.specs.Prelude.{◌≡◌, length};
 ghost use Rattle.jobs.specs.Nodes.{worker_count};
 
-use super::fixtures::{check_text, job_in, joined, whole};
+use super::fixtures::{job_in, joined, whole};
+use crate::tests::check_text;
 use jobs::{Job, worker_count};
 use keyed_state::Keyed;
 use payments::read_rows;

@@ -27,6 +27,6 @@ fn first_func<'a>(rt: &impl Abort, requests: &'a [Request]) -> &'a Func {
 #[test]
 fn functions_fit_a_job(rt: HostRuntime) {
     for (func, want) in change_cases::FUNCTIONS {
-        assert!(rt; fits_payments(&rt, func) == *want, "{func}");
+        assert_eq!(rt; fits_payments(&rt, func), *want, "{func}");
     }
 }

@@ -48,32 +48,3 @@ pub static CASES: &[Case] = &[
         Err(JobFault::Ports(3)),
     ),
 ];
-
-/// Three maps in a ring.
-pub static RING: &[Case] = &[(
-    Text::File,
-    r#"columns = ["who:text"]
-[[node]]
-name = "a"
-kind = "map"
-steps = []
-[[node]]
-name = "b"
-kind = "map"
-steps = []
-[[node]]
-name = "c"
-kind = "map"
-steps = []
-[[edge]]
-from = "a"
-to = "b"
-[[edge]]
-from = "b"
-to = "c"
-[[edge]]
-from = "c"
-to = "a"
-"#,
-    Err(JobFault::Cycle(0)),
-)];

@@ -20,11 +20,6 @@ pub fn check<T: PartialEq + Debug + Drop>(rt: &impl Abort, found: T, want: T) {
     assert_eq!(rt; found, want);
 }
 
-/// Asserts that bytes are those of a text.
-pub fn check_text(rt: &impl Abort, found: &[u8], want: &str) {
-    assert!(rt; found == want.as_bytes(), "{want}");
-}
-
 /// All parts of a text, one behind another.
 pub fn whole(rt: &(impl AllocGlobal + Abort), text: &Text) -> Bytes {
     let mut bytes = Bytes::new(rt.alloc());

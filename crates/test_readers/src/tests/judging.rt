@@ -1,10 +1,10 @@
 // Which requests are accepted, and why others aren't.
 use super::change_cases::{self, Case, EARLIER, LATER, TWO_SPLITS};
-use super::files::{KINDS, REQUESTS, ROOF};
+use super::files::KINDS;
 use super::fixtures::{check, job_in, requests_in, stream_requests_in};
 use jobs::{Func, Job};
 use std::process::Abort;
-use test_texts::{CHAIN, PAYMENTS_JOB};
+use test_texts::{CHAIN, PAYMENTS_JOB, PAYMENTS_REQUESTS, ROOF};
 use versions::{Book, Judged, QFault, Refused, Request, judge, judge_all, judge_within};
 
 /// How many requests are accepted, and the first two that aren't.
@@ -44,7 +44,7 @@ fn fault(rt: &(impl AllocGlobal + Abort), job: &str, changes: &str) -> Option<QF
 
 fn check_changes(rt: &(impl AllocGlobal + Abort), job: &str, cases: &[Case]) {
     for (changes, want) in cases {
-        assert!(rt; fault(rt, job, changes) == *want, "{changes}");
+        assert_eq!(rt; fault(rt, job, changes), *want, "{changes}");
     }
 }
 
@@ -108,7 +108,7 @@ fn requests_of_the_payments(rt: HostRuntime) {
     };
     check(
         &rt,
-        fate(&rt, PAYMENTS_JOB, &[REQUESTS]),
+        fate(&rt, PAYMENTS_JOB, &[PAYMENTS_REQUESTS]),
         (2, Some(stale), None),
     );
 }

@@ -1,6 +1,7 @@
 // The rows that a generator makes. The values were computed by another program.
-use super::fixtures::{check, check_text, lines_of_rows};
+use super::fixtures::{check, lines_of_rows};
 use super::rows::{ONE_SOURCE, PLAIN, TWO_SOURCES, job_of};
+use crate::tests::check_text;
 use jobs::Job;
 use payments::{PFault, make_rows};
 use std::alloc::Global;

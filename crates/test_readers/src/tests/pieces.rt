@@ -1,5 +1,6 @@
 // Pieces of an input, however its bytes come, and the records of each piece in turn.
-use super::fixtures::{check, check_text};
+use super::fixtures::check;
+use crate::tests::check_text;
 use csv::{ByteRecord, ReaderBuilder};
 use input_pieces::{HostTap, MAX_RECORD, MemoryTap, PieceFault, Pieces, SureTap, Tap, TapStep};
 use std::process::Abort;

@@ -1,5 +1,4 @@
 // Job files, and the first fault of each.
-use super::files::ROOF;
 use super::fixtures::{check, job_in, read, read_bytes};
 use super::{edge_cases, func_cases, job_cases};
 use job_file::{JobFault, faulty_is_no_job, files_have_one_fault};
@@ -8,7 +7,7 @@ use jobs::{
     weights_settle, worker_count,
 };
 use std::process::Abort;
-use test_texts::{CHAIN, PAYMENTS_JOB};
+use test_texts::{CHAIN, PAYMENTS_JOB, RING, ROOF};
 
 /// The columns and a table of a small job.
 const COLUMNS: &str =
@@ -76,7 +75,7 @@ fn answer_to(rt: &(impl AllocGlobal + Abort), text: Text, piece: &str) -> Answer
 
 fn check_answers(rt: &(impl AllocGlobal + Abort), cases: &[Case]) {
     for (text, piece, want) in cases {
-        assert!(rt; answer_to(rt, *text, piece) == *want, "{piece}");
+        assert_eq!(rt; answer_to(rt, *text, piece), *want, "{piece}");
     }
 }
 
@@ -97,7 +96,11 @@ fn edges_are_those_of_their_nodes(rt: HostRuntime) {
 
 #[test]
 fn cycle_is_refused(rt: HostRuntime) {
-    check_answers(&rt, edge_cases::RING);
+    check(
+        &rt,
+        answer_to(&rt, Text::File, RING),
+        Err(JobFault::Cycle(0)),
+    );
 }
 
 /// How many nodes, edges and workers a job has, and its weight.

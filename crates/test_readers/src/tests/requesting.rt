@@ -1,12 +1,11 @@
 // Request files, and the first fault of each.
-use super::files::REQUESTS;
 use super::fixtures::{check, job_in, joined, repeated, requests_in};
 use super::request_cases;
 use job_file::{ReqFileFault, Which, read_requests};
 use jobs::Func;
 use keyed_state::Carry;
 use std::process::Abort;
-use test_texts::PAYMENTS_JOB;
+use test_texts::{PAYMENTS_JOB, PAYMENTS_REQUESTS};
 use versions::Request;
 
 /// How many requests a reader finds in a file.
@@ -47,7 +46,7 @@ fn asked_by(rt: &(impl AllocGlobal + Abort), text: RequestText, piece: &str) -> 
 #[test]
 fn faults_of_requests(rt: HostRuntime) {
     for (text, piece, want) in request_cases::CASES {
-        assert!(rt; asked_by(&rt, *text, piece) == *want, "{piece}");
+        assert_eq!(rt; asked_by(&rt, *text, piece), *want, "{piece}");
     }
 }
 
@@ -110,6 +109,6 @@ fn check_told(rt: &impl Abort, requests: &[Request]) {
 #[test]
 fn requests_of_the_example(rt: HostRuntime) {
     let job = job_in(&rt, &[PAYMENTS_JOB]);
-    let requests = requests_in(&rt, &job, &[REQUESTS]);
+    let requests = requests_in(&rt, &job, &[PAYMENTS_REQUESTS]);
     check_told(&rt, requests.as_slice());
 }

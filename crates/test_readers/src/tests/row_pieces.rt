@@ -1,7 +1,8 @@
 // The rows of payments that come in pieces, and the first fault in them.
-use super::fixtures::{check, check_text, lines_of_rows};
+use super::fixtures::{check, lines_of_rows};
 use super::pieces::{PAYMENTS, tap_of};
 use super::rows::{ONE_SOURCE, TWO_SOURCES, job_of};
+use crate::tests::check_text;
 use input_pieces::{MemoryTap, Pieces};
 use jobs::Job;
 use payments::{PFault, read_rows};

@@ -1,7 +1,8 @@
 // Payments files that are read by several threads.
-use super::fixtures::{check, check_text, lines_of_rows, repeated};
+use super::fixtures::{check, lines_of_rows, repeated};
 use super::pieces::PAYMENTS;
 use super::rows::{TWO_SOURCES, job_of};
+use crate::tests::check_text;
 use jobs::Job;
 use payments::{PFault, read_rows};
 use row_threads::{read_rows as read_rows_on, read_shares};

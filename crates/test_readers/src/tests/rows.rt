@@ -1,5 +1,6 @@
 // The rows of payments files, and their faults.
-use super::fixtures::{check, check_text, job_in, joined, lines_of_rows, repeated};
+use super::fixtures::{check, job_in, joined, lines_of_rows, repeated};
+use crate::tests::check_text;
 use jobs::{Job, weight};
 use payments::{PFault, read_rows};
 use std::process::Abort;

@@ -2,7 +2,8 @@
 ghost use Rattle.std.specs.Prelude.{◌≡◌, None};
 ghost use Rattle.payments.specs.Memory.{draft_of};
 
-use super::fixtures::{check, check_text};
+use super::fixtures::check;
+use crate::tests::check_text;
 use payments::{
     Calls, HostFault, HostShelf, MemoryShelf, MemorySink, Shelf, ShelfFault, Sink, SinkFault,
     StdOut, store, store_parts, write_all,

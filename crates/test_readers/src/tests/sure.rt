@@ -1,6 +1,7 @@
 // A shelf and a sink that never fail.
-use super::fixtures::{check, check_text};
+use super::fixtures::check;
 use super::shelves::{check_file, check_read, check_refused, word};
+use crate::tests::check_text;
 use payments::{ShelfFault, Sink, SureShelf, SureSink, store, write_all};
 use std::process::Abort;
 use tuple_trace::Bytes;

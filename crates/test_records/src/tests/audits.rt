@@ -1,7 +1,7 @@
 //! The runs whose audits are checked.
 use crate::tests::payments_job;
 use test_runs::Inputs;
-use test_texts::{AMOUNT_CHAIN, PAYMENTS_JOB, TEN_PAYMENTS};
+use test_texts::{AMOUNT_CHAIN, PAYMENTS_JOB, PAYMENTS_REQUESTS, TEN_PAYMENTS};
 
 pub const NO_PAYMENTS: Inputs<'_> = Inputs {
     job: AMOUNT_CHAIN,
@@ -26,33 +26,7 @@ card,12.00
 /// is refused.
 pub const PAYMENTS: Inputs<'_> = Inputs {
     job: PAYMENTS_JOB,
-    requests: r#"[[request]]
-after = 4
-[[request.change]]
-node = "big"
-from = 0
-kind = "filter"
-when = [["amount", ">=", 5000]]
-[[request.change]]
-node = "hot"
-from = 0
-kind = "filter"
-when = [["risk", ">=", 3]]
-[[request]]
-after = 8
-[[request.change]]
-node = "often"
-from = 0
-kind = "filter"
-when = [["seen", ">=", 2]]
-[[request]]
-after = 8
-[[request.change]]
-node = "big"
-from = 0
-kind = "filter"
-when = [["amount", ">=", 20000]]
-"#,
+    requests: PAYMENTS_REQUESTS,
     payments: TEN_PAYMENTS,
     ordered: false,
 };

@@ -4,6 +4,7 @@ ghost use Rattle.jobs.specs.Job.{job_view};
 ghost use Rattle.jobs.specs.Nodes.{worker_count as count_of};
 ghost use Rattle.flow_model.specs.Workers.{workers_in};
 
+use crate::tests::check_text;
 use audit_fault::AuditFault;
 use audit_restore::check_audit;
 use flow_model::{RunRecord, Start};
@@ -11,6 +12,7 @@ use fries_lines::noted;
 use jobs::worker_count;
 use sink_journal::audit_text;
 use std::alloc::Global;
+use std::process::Abort;
 use test_runs::{Case, Inputs};
 use tuple_trace::Bytes;
 
@@ -113,18 +115,32 @@ fn said_run(alloc: Global, ran: &RunRecord) -> Said {
     }
 }
 
+/// The fault that the checker answers. `None` if it answers none.
+pub fn fault_in(said: Said) -> Option<AuditFault> {
+    match said {
+        Said::Fault(fault) => Some(fault),
+        Said::Run(_) | Said::Nothing => None,
+    }
+}
+
+/// The fault that the checker answers of a text. `None` if it answers none.
+pub fn fault_of(alloc: Global, case: Inputs<'_>, text: &str) -> Option<AuditFault> {
+    fault_in(said_of(alloc, case, text.as_bytes()))
+}
+
+/// Asserts that the checker answers the run of this text.
+pub fn check_run(rt: &impl Abort, said: Said, text: &str) {
+    match said {
+        Said::Run(again) => check_text(rt, again.as_slice(), text),
+        Said::Fault(fault) => assert_eq!(rt; Some(fault), None),
+        Said::Nothing => check_text(rt, b"nothing", text),
+    }
+}
+
 /// Whether the checker answers the run of this text.
 pub fn is_verified(alloc: Global, case: Inputs<'_>, text: &[u8]) -> bool {
     match said_of(alloc, case, text) {
         Said::Run(again) => again.as_slice() == text,
         Said::Fault(_) | Said::Nothing => false,
-    }
-}
-
-/// Whether the checker answers this fault.
-pub fn has_fault(alloc: Global, case: Inputs<'_>, text: &[u8], fault: AuditFault) -> bool {
-    match said_of(alloc, case, text) {
-        Said::Fault(found) => found == fault,
-        Said::Run(_) | Said::Nothing => false,
     }
 }

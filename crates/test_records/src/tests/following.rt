@@ -11,38 +11,10 @@ use jobs::Job;
 use std::alloc::Global;
 use stream_law::accepted_requests_split_within;
 use test_runs::job_of;
+use test_texts::ROOF;
 use versions::{
     Judged, MAX_STREAM_REQUESTS, Requests, accepted_requests_stay_accepted, judge_all, judge_within,
 };
-
-/// A map with a roof of 3 before a filter.
-const JOB: &str = r#"columns = ["account:text", "amount:cents", "tags:text"]
-[[node]]
-name = "card"
-kind = "source"
-[[node]]
-name = "u"
-kind = "map"
-steps = []
-roof = 3
-[[node]]
-name = "m"
-kind = "filter"
-when = []
-[[node]]
-name = "out"
-kind = "sink"
-columns = ["account"]
-[[edge]]
-from = "card"
-to = "u"
-[[edge]]
-from = "u"
-to = "m"
-[[edge]]
-from = "m"
-to = "out"
-"#;
 
 /// A change of the filter, then a request that makes the map a split, and one that would make the
 /// filter a split.
@@ -121,7 +93,7 @@ fn covers_from_the_map(setup: &Setup) -> bool {
 }
 
 fn are_followed(alloc: Global) -> bool {
-    match followed(alloc, JOB, LATER) {
+    match followed(alloc, ROOF, LATER) {
         Some(setup) => covers_from_the_map(&setup),
         None => false,
     }

@@ -94,7 +94,7 @@ fn counts_of_joined(alloc: Global) -> [usize; 4] {
 
 #[test]
 fn a_run_is_joined_to_its_end(rt: HostRuntime) {
-    assert!(rt; counts_of_joined(rt.alloc()) == [1, 12, 8, 40]);
+    assert_eq!(rt; counts_of_joined(rt.alloc()), [1, 12, 8, 40]);
 }
 
 /// A setup with one request, of which none is left.
@@ -111,5 +111,5 @@ fn left(alloc: Global) -> Option<(usize, usize)> {
 
 #[test]
 fn no_request_is_left(rt: HostRuntime) {
-    assert!(rt; left(rt.alloc()) == Some((0, 0)));
+    assert_eq!(rt; left(rt.alloc()), Some((0, 0)));
 }

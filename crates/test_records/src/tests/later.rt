@@ -1,6 +1,6 @@
 //! What the checker says of audits of the last two payments, after a savepoint.
 use crate::tests::audits::PAYMENTS;
-use crate::tests::case::{Said, has_fault, said_from};
+use crate::tests::case::{Said, check_run, fault_in, fault_of, said_from};
 use audit_fault::AuditFault;
 use savepoint_file::read_save;
 use std::alloc::Global;
@@ -87,31 +87,27 @@ fn said_after(alloc: Global, save: &str, turned: u64, text: &str) -> Said {
     said_from(alloc, case, &start, text.as_bytes())
 }
 
-fn is_verified_after(alloc: Global, turned: u64, text: &str) -> bool {
-    match said_after(alloc, SAVE_OF_8, turned, text) {
-        Said::Run(again) => again.as_slice() == text.as_bytes(),
-        Said::Fault(_) | Said::Nothing => false,
-    }
-}
-
-fn is_refused_after(alloc: Global, save: &str, turned: u64, text: &str, fault: AuditFault) -> bool {
-    match said_after(alloc, save, turned, text) {
-        Said::Fault(found) => found == fault,
-        Said::Run(_) | Said::Nothing => false,
-    }
+fn fault_after(alloc: Global, save: &str, turned: u64, text: &str) -> Option<AuditFault> {
+    fault_in(said_after(alloc, save, turned, text))
 }
 
 #[test]
 fn the_last_two_payments_are_verified(rt: HostRuntime) {
-    assert!(rt; is_verified_after(rt.alloc(), 2, AUDIT));
+    check_run(&rt, said_after(rt.alloc(), SAVE_OF_8, 2, AUDIT), AUDIT);
 }
 
 #[test]
 fn a_request_for_an_earlier_row_is_issued_first(rt: HostRuntime) {
-    assert!(rt; is_verified_after(rt.alloc(), 1, AUDIT_OF_A_LATE_REQUEST));
-    let fed_first = AuditFault::Feed(2);
-    assert!(rt; is_refused_after(rt.alloc(), SAVE_OF_8, 1, AUDIT, fed_first));
-    assert!(rt; is_refused_after(rt.alloc(), SAVE_OF_8, 2, AUDIT_OF_A_LATE_REQUEST, fed_first));
+    let (alloc, late) = (rt.alloc(), AUDIT_OF_A_LATE_REQUEST);
+    check_run(&rt, said_after(alloc, SAVE_OF_8, 1, late), late);
+    assert_eq!(rt;
+        fault_after(alloc, SAVE_OF_8, 1, AUDIT),
+        Some(AuditFault::Feed(2))
+    );
+    assert_eq!(rt;
+        fault_after(alloc, SAVE_OF_8, 2, late),
+        Some(AuditFault::Feed(2))
+    );
 }
 
 /// What is saved if nothing was counted.
@@ -120,11 +116,14 @@ const NO_COUNTS: &str = "fries,save,8,2\n";
 #[test]
 fn counts_before_are_part_of_an_audit(rt: HostRuntime) {
     let alloc = rt.alloc();
-    assert!(rt; is_refused_after(alloc, NO_COUNTS, 2, AUDIT, AuditFault::Lane(9)));
+    assert_eq!(rt;
+        fault_after(alloc, NO_COUNTS, 2, AUDIT),
+        Some(AuditFault::Lane(9))
+    );
 }
 
 #[test]
 fn a_later_part_is_no_whole_run(rt: HostRuntime) {
     let alloc = rt.alloc();
-    assert!(rt; has_fault(alloc, PAYMENTS, AUDIT.as_bytes(), AuditFault::Feed(2)));
+    assert_eq!(rt; fault_of(alloc, PAYMENTS, AUDIT), Some(AuditFault::Feed(2)));
 }

@@ -1,36 +1,41 @@
-use crate::tests::payments_job::{AFTER_4, AFTER_4_AND_8, AT_FIRST, inputs};
+use crate::tests::check_text;
+use crate::tests::payments_job::{AFTER_4, AFTER_4_AND_8, inputs};
 use flow_replay::{RunRecord, Setup};
 use jobs::Func;
 use serial_order::{push_serial_line, serial, table_at};
 use std::alloc::Global;
+use std::process::Abort;
 use test_runs::rows_of;
-use test_texts::TEN_PAYMENTS;
+use test_texts::{AT_THE_FRONT, TEN_PAYMENTS};
 use tuple_trace::{Bytes, NoMemory, Value};
 
-/// Whether the line of the run's order is this one.
-fn tells(alloc: Global, ran: &RunRecord, wanted: &str) -> Result<bool, NoMemory> {
+/// The line of the run's order.
+fn line_of(alloc: Global, ran: &RunRecord) -> Result<Bytes, NoMemory> {
     let rows = rows_of(alloc, &ran.setup.job, TEN_PAYMENTS).ok_or(NoMemory)?;
     let order = serial(alloc, ran, &rows)?;
     let mut line = Bytes::new(alloc);
     push_serial_line(alloc, &order, ran.setup.request_count(), &mut line)?;
-    Ok(line.as_slice() == wanted.as_bytes())
+    Ok(line)
 }
 
-fn has_line(alloc: Global, requests: &str, wanted: &str) -> bool {
-    match inputs(requests).run(alloc) {
-        Some(ran) => matches!(tells(alloc, &ran, wanted), Ok(true)),
-        None => false,
-    }
+fn line_with(alloc: Global, requests: &str) -> Option<Bytes> {
+    let ran = inputs(requests).run(alloc)?;
+    line_of(alloc, &ran).ok()
+}
+
+fn check_line(rt: &(impl AllocGlobal + Abort), requests: &str, wanted: &str) {
+    let line = line_with(rt.alloc(), requests).expect(rt, "a line");
+    check_text(rt, line.as_slice(), wanted);
 }
 
 #[test]
 fn ordered_run(rt: HostRuntime) {
-    assert!(rt; has_line(rt.alloc(), AT_FIRST, "serial 0 10\n"));
+    check_line(&rt, AT_THE_FRONT, "serial 0 10\n");
 }
 
 #[test]
 fn rows_around_their_requests(rt: HostRuntime) {
-    assert!(rt; has_line(rt.alloc(), AFTER_4_AND_8, "serial 4 4 2\n"));
+    check_line(&rt, AFTER_4_AND_8, "serial 4 4 2\n");
 }
 
 /// The number that a filter's one condition compares with.
@@ -69,6 +74,6 @@ fn thresholds_in(alloc: Global, setup: &Setup, k: u64) -> Option<[Option<i64>; 3
 fn functions_before_and_after_a_request(rt: HostRuntime) {
     let before = [Some(10000), Some(2), Some(3)];
     let after = [Some(5000), Some(3), Some(3)];
-    assert!(rt; thresholds(rt.alloc(), 0) == Some(before));
-    assert!(rt; thresholds(rt.alloc(), 1) == Some(after));
+    assert_eq!(rt; thresholds(rt.alloc(), 0), Some(before));
+    assert_eq!(rt; thresholds(rt.alloc(), 1), Some(after));
 }

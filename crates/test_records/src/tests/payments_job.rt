@@ -27,21 +27,6 @@ kind = "filter"
 when = [["risk", ">=", 3]]
 "#;
 
-/// The first request comes before all rows.
-pub const AT_FIRST: &str = r#"[[request]]
-after = 0
-[[request.change]]
-node = "big"
-from = 0
-kind = "filter"
-when = [["amount", ">=", 5000]]
-[[request.change]]
-node = "hot"
-from = 0
-kind = "filter"
-when = [["risk", ">=", 3]]
-"#;
-
 /// The second request lowers the threshold of `often` after row 8.
 pub const AFTER_4_AND_8: &str = r#"[[request]]
 after = 4

@@ -2,16 +2,7 @@
 use crate::tests::case::{audit_of, is_verified};
 use std::alloc::{AllocError, Global};
 use test_runs::Inputs;
-
-/// What a seed draws for this use, below `count`.
-fn draw(seed: u64, usage: u64, count: u64) -> u64 {
-    let mixed = seed
-        .wrapping_mul(0x9e37_79b9_7f4a_7c15)
-        .wrapping_add(usage)
-        .wrapping_mul(0xbf58_476d_1ce4_e5b9);
-    let mixed = (mixed ^ mixed >> 29).wrapping_mul(0x94d0_49bb_1331_11eb);
-    (mixed >> 32).wrapping_mul(count) >> 32
-}
+use test_texts::draw;
 
 const HEAD: &str = r#"columns = ["n:number", "tags:text", "seen:number:own"]
 [[node]]
@@ -126,5 +117,5 @@ fn count_all(alloc: Global, seeds: u64) -> (u32, u32, u32) {
 #[test]
 fn audits_of_random_jobs(rt: HostRuntime) {
     let found = count_all(rt.alloc(), 60);
-    assert!(rt; matches!(found, (60, 0, 0)), "{found:?}");
+    assert_eq!(rt; found, (60, 0, 0));
 }

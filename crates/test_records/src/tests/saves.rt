@@ -1,3 +1,4 @@
+use crate::tests::check_text;
 use crate::tests::payments_job::{AFTER_4_AND_8, FIRST_8, inputs};
 use flow_model::{RunRecord, Setup, Start};
 use jobs::worker_count;
@@ -35,52 +36,46 @@ fn text_of(alloc: Global, setup: &Setup, start: &Start) -> Option<Bytes> {
     }
 }
 
-fn is_saved(alloc: Global) -> Option<bool> {
+fn saved(alloc: Global) -> Option<Bytes> {
     let ran = first_run(alloc)?;
-    saves_text(alloc, &ran)
+    saved_of(alloc, &ran)
 }
 
-fn saves_text(alloc: Global, ran: &RunRecord) -> Option<bool> {
+fn saved_of(alloc: Global, ran: &RunRecord) -> Option<Bytes> {
     let Ok(start) = start_of(alloc, ran, 8) else {
         return None;
     };
-    let text = text_of(alloc, &ran.setup, &start)?;
-    Some(text.as_slice() == SAVE_OF_8.as_bytes())
+    text_of(alloc, &ran.setup, &start)
 }
 
 #[test]
 fn eight_payments_are_saved(rt: HostRuntime) {
-    assert!(rt; is_saved(rt.alloc()) == Some(true));
+    let text = saved(rt.alloc()).expect(&rt, "a savepoint");
+    check_text(&rt, text.as_slice(), SAVE_OF_8);
 }
 
-/// Whether what the text tells has this text again.
-fn is_read_again(alloc: Global) -> Option<bool> {
+/// The text of what the text tells.
+fn read_again(alloc: Global) -> Option<Bytes> {
     let setup = inputs(AFTER_4_AND_8).setup(alloc)?;
-    reads_again(alloc, &setup)
+    saved_again(alloc, &setup)
 }
 
-fn reads_again(alloc: Global, setup: &Setup) -> Option<bool> {
+fn saved_again(alloc: Global, setup: &Setup) -> Option<Bytes> {
     let Ok(start) = read_save(alloc, setup, 10, SAVE_OF_8.as_bytes()) else {
         return None;
     };
-    let text = text_of(alloc, setup, &start)?;
-    Some(text.as_slice() == SAVE_OF_8.as_bytes())
+    text_of(alloc, setup, &start)
 }
 
 #[test]
 fn a_savepoint_is_read_again(rt: HostRuntime) {
-    assert!(rt; is_read_again(rt.alloc()) == Some(true));
+    let text = read_again(rt.alloc()).expect(&rt, "a savepoint");
+    check_text(&rt, text.as_slice(), SAVE_OF_8);
 }
 
-fn has_fault(alloc: Global, text: &str, wanted: SaveFault) -> bool {
-    match inputs(AFTER_4_AND_8).setup(alloc) {
-        Some(setup) => is_refused(alloc, &setup, text, wanted),
-        None => false,
-    }
-}
-
-fn is_refused(alloc: Global, setup: &Setup, text: &str, wanted: SaveFault) -> bool {
-    matches!(read_save(alloc, setup, 10, text.as_bytes()), Err(fault) if fault == wanted)
+fn fault_of(alloc: Global, text: &str) -> Option<SaveFault> {
+    let setup = inputs(AFTER_4_AND_8).setup(alloc)?;
+    read_save(alloc, &setup, 10, text.as_bytes()).err()
 }
 
 const REFUSED: [(&str, SaveFault); 6] = [
@@ -98,6 +93,6 @@ const REFUSED: [(&str, SaveFault); 6] = [
 #[test]
 fn refused_savepoints(rt: HostRuntime) {
     for (text, fault) in REFUSED {
-        assert!(rt; has_fault(rt.alloc(), text, fault));
+        assert_eq!(rt; fault_of(rt.alloc(), text), Some(fault), "{text}");
     }
 }

@@ -4,6 +4,7 @@ use audit_fault::AuditFault;
 use flow_model::{Setup, Start};
 use sink_journal::Noted;
 use std::alloc::Global;
+use std::process::Abort;
 use test_runs::{job_of, rows_of, setup_of};
 use test_texts::{AMOUNT_CHAIN, AUDIT_OF_NONE};
 
@@ -36,7 +37,7 @@ fn shape_by(alloc: Global, setup: &Setup, text: &str) -> Shape {
 
 #[test]
 fn the_audit_of_no_payments(rt: HostRuntime) {
-    assert!(rt; matches!(shape_of(rt.alloc(), AUDIT_OF_NONE), Shape::Right));
+    assert_eq!(rt; shape_of(rt.alloc(), AUDIT_OF_NONE), Shape::Right);
 }
 
 /// A text with a record, after the header and the end of the feed, and the first record that is
@@ -59,18 +60,18 @@ const RECORDS: [(&str, Shape); 12] = [
     ("refused,,,,1,Q1\n", Shape::Wrong(2)),
 ];
 
-fn has_shape(alloc: Global, record: &str, shape: Shape) -> bool {
+fn shape_with(alloc: Global, record: &str) -> Shape {
     let Ok(text) = format!(in alloc; "entry,node,worker,lane,number,extra\nstopped,,,,,\n{record}")
     else {
-        return false;
+        return Shape::Unknown;
     };
-    shape_of(alloc, &text) == shape
+    shape_of(alloc, &text)
 }
 
 #[test]
 fn records_are_judged_one_by_one(rt: HostRuntime) {
     for case in RECORDS {
-        assert!(rt; has_shape(rt.alloc(), case.0, case.1), "{}", case.0);
+        assert_eq!(rt; shape_with(rt.alloc(), case.0), case.1, "{}", case.0);
     }
 }
 
@@ -81,10 +82,7 @@ fn a_text_begins_with_the_header(rt: HostRuntime) {
         "x,node,worker,lane,number,extra\n",
         "entry,node,worker,lane,number\n",
     ] {
-        assert!(rt;
-            matches!(shape_of(rt.alloc(), text), Shape::Wrong(0)),
-            "{text}"
-        );
+        assert_eq!(rt; shape_of(rt.alloc(), text), Shape::Wrong(0), "{text}");
     }
 }
 
@@ -143,16 +141,14 @@ const TEXTS: [(&str, Option<AuditFault>); 7] = [
     ),
 ];
 
-fn has_fault(alloc: Global, records: &str, fault: Option<AuditFault>) -> bool {
-    let Ok(text) = format!(in alloc; "entry,node,worker,lane,number,extra\n{records}") else {
-        return false;
-    };
-    fault_of(alloc, &text) == fault
+fn fault_with(rt: &(impl AllocGlobal + Abort), records: &str) -> Option<AuditFault> {
+    let text = format!(in rt.alloc(); "entry,node,worker,lane,number,extra\n{records}");
+    fault_of(rt.alloc(), text.expect(rt, "memory").as_str())
 }
 
 #[test]
 fn the_first_code_is_answered(rt: HostRuntime) {
     for case in TEXTS {
-        assert!(rt; has_fault(rt.alloc(), case.0, case.1), "{}", case.0);
+        assert_eq!(rt; fault_with(&rt, case.0), case.1, "{}", case.0);
     }
 }

@@ -1,9 +1,10 @@
+use crate::tests::check_text;
 use crate::tests::payments_job::{AFTER_4_AND_8, inputs};
 use flow_model::Setup;
 use jobs::worker_count;
 use std::alloc::Global;
 use stream_save::{StreamSave, StreamSaveFault, read_stream, stream_text};
-use tuple_trace::{Bytes, NoMemory};
+use tuple_trace::Bytes;
 
 /// What is saved of a stream of the payments after row 8, with a third request to come.
 const SAVE: &str = "\
@@ -35,34 +36,28 @@ fn text_of(alloc: Global, setup: &Setup, save: &StreamSave) -> Option<Bytes> {
     }
 }
 
-/// Whether the text tells its numbers, and what it tells has this text again.
-fn is_read_again(alloc: Global) -> Option<bool> {
+/// The text of what the text tells. `None` if it tells other numbers.
+fn read_again(alloc: Global) -> Option<Bytes> {
     let setup = inputs(AFTER_4_AND_8).setup(alloc)?;
-    reads_again(alloc, &setup)
+    saved_again(alloc, &setup)
 }
 
-fn reads_again(alloc: Global, setup: &Setup) -> Option<bool> {
-    let Ok(save) = read_stream(alloc, setup, SAVE.as_bytes()) else {
-        return None;
-    };
-    let text = text_of(alloc, setup, &save)?;
-    Some(has_numbers(&save) && text.as_slice() == SAVE.as_bytes())
+fn saved_again(alloc: Global, setup: &Setup) -> Option<Bytes> {
+    match read_stream(alloc, setup, SAVE.as_bytes()) {
+        Ok(save) if has_numbers(&save) => text_of(alloc, setup, &save),
+        _ => None,
+    }
 }
 
 #[test]
 fn a_stream_is_read_again(rt: HostRuntime) {
-    assert!(rt; is_read_again(rt.alloc()) == Some(true));
+    let text = read_again(rt.alloc()).expect(&rt, "the numbers");
+    check_text(&rt, text.as_slice(), SAVE);
 }
 
-fn has_fault(alloc: Global, text: &str, wanted: StreamSaveFault) -> bool {
-    match inputs(AFTER_4_AND_8).setup(alloc) {
-        Some(setup) => is_refused(alloc, &setup, text, wanted),
-        None => false,
-    }
-}
-
-fn is_refused(alloc: Global, setup: &Setup, text: &str, wanted: StreamSaveFault) -> bool {
-    matches!(read_stream(alloc, setup, text.as_bytes()), Err(fault) if fault == wanted)
+fn fault_of(alloc: Global, text: &str) -> Option<StreamSaveFault> {
+    let setup = inputs(AFTER_4_AND_8).setup(alloc)?;
+    read_stream(alloc, &setup, text.as_bytes()).err()
 }
 
 const REFUSED: [(&str, StreamSaveFault); 8] = [
@@ -97,13 +92,8 @@ const REFUSED: [(&str, StreamSaveFault); 8] = [
 #[test]
 fn refused_streams(rt: HostRuntime) {
     for (text, fault) in REFUSED {
-        assert!(rt; has_fault(rt.alloc(), text, fault));
+        assert_eq!(rt; fault_of(rt.alloc(), text), Some(fault), "{text}");
     }
-}
-
-fn says(alloc: Global, fault: StreamSaveFault, wanted: &str) -> Result<bool, NoMemory> {
-    let words = format!(in alloc; "{fault}")?;
-    Ok(words.as_bytes() == wanted.as_bytes())
 }
 
 const WORDS: [(StreamSaveFault, &str); 7] = [
@@ -119,6 +109,7 @@ const WORDS: [(StreamSaveFault, &str); 7] = [
 #[test]
 fn faults_of_streams(rt: HostRuntime) {
     for (fault, words) in WORDS {
-        assert!(rt; matches!(says(rt.alloc(), fault, words), Ok(true)));
+        let said = format!(in rt.alloc(); "{fault}").expect(&rt, "memory");
+        check_text(&rt, said.as_bytes(), words);
     }
 }

@@ -6,6 +6,7 @@
 use crate::tests::Input;
 use crate::tests::stages::{COUNTS, HEAD, SINK, STAGES, Stage, TAGS};
 use std::alloc::{AllocError, Global};
+use test_texts::{digit, draw};
 
 /// How a request begins that comes between rows.
 const AFTER: [&str; 4] = [
@@ -49,31 +50,6 @@ pub fn rows_of(seed: u64) -> u64 {
 // How many stages lie between the first count and the sink.
 fn stages_of(seed: u64) -> u64 {
     draw(seed, 2, 3).wrapping_add(1)
-}
-
-/// What a seed draws for this use, below `count`.
-fn draw(seed: u64, usage: u64, count: u64) -> u64 {
-    let mixed = seed
-        .wrapping_mul(0x9e37_79b9_7f4a_7c15)
-        .wrapping_add(usage)
-        .wrapping_mul(0xbf58_476d_1ce4_e5b9);
-    let mixed = (mixed ^ mixed >> 29).wrapping_mul(0x94d0_49bb_1331_11eb);
-    (mixed >> 32).wrapping_mul(count) >> 32
-}
-
-fn digit(number: u64) -> char {
-    match number {
-        0 => '0',
-        1 => '1',
-        2 => '2',
-        3 => '3',
-        4 => '4',
-        5 => '5',
-        6 => '6',
-        7 => '7',
-        8 => '8',
-        _ => '9',
-    }
 }
 
 // The stage with this number. Number 0 is the first count.

@@ -9,6 +9,7 @@ use std::alloc::Global;
 use std::str;
 use std::sync::Wait;
 use std::thread::Threads;
+use test_texts::times;
 use tuple_trace::NoMemory;
 
 /// The second command, on one thread and on four.
@@ -32,17 +33,6 @@ fn shelf(alloc: Global, input: Input<'_>) -> Result<MemoryShelf, NoMemory> {
             failing: None,
         },
     )
-}
-
-/// How many lines of a text are this one.
-fn times(text: &str, line: &str) -> usize {
-    let mut found = 0usize;
-    for other in text.lines() {
-        if other == line {
-            found = found.saturating_add(1);
-        }
-    }
-    found
 }
 
 // What follows the first line.
@@ -159,15 +149,12 @@ where
 
 #[test]
 fn whole_run(rt: HostRuntime) {
-    assert!(rt; matches!(wrong_cuts(&rt, rt.alloc(), TEN, 10), Ok(0)));
+    assert_eq!(rt; wrong_cuts(&rt, rt.alloc(), TEN, 10), Ok(0));
 }
 
 #[test]
 fn cut_at_each_row(rt: HostRuntime) {
     for seed in 0..12 {
-        assert!(rt;
-            matches!(wrong_cuts_of(&rt, rt.alloc(), seed), Ok(0)),
-            "seed {seed}"
-        );
+        assert_eq!(rt; wrong_cuts_of(&rt, rt.alloc(), seed), Ok(0), "seed {seed}");
     }
 }

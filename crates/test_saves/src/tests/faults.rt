@@ -1,6 +1,6 @@
 //! Each call of the shelf fails alone.
 
-use crate::tests::{Around, Input, Left, leaves};
+use crate::tests::{Around, Input, Left, check_call};
 
 /// A count, and all rows at one sink. One lane leads to each worker, so no schedule changes an
 /// audit.
@@ -211,10 +211,7 @@ fn left(row: &Row) -> Left<'static> {
 fn each_call_fails(rt: HostRuntime) {
     for (line, save, rows) in COMMANDS {
         for (failing, row) in rows.iter().enumerate() {
-            assert!(rt;
-                leaves(&rt, rt.alloc(), around(save, failing), line, left(row)),
-                "{line}: call {failing}"
-            );
+            check_call(&rt, around(save, failing), line, left(row));
         }
     }
 }

@@ -9,7 +9,7 @@ use std::alloc::Global;
 use std::str;
 use std::sync::Wait;
 use std::thread::Threads;
-use test_texts::PAYMENTS_ALERTS;
+use test_texts::{PAYMENTS_ALERTS, is_steady_audit};
 use tuple_trace::NoMemory;
 
 /// Both commands, on one thread and on four.
@@ -26,40 +26,6 @@ const BOTH: [[&str; 2]; 2] = [
 
 /// How many records the audit of ten payments has, with its header and without the refused request.
 const RECORDS: usize = 70;
-
-/// What no schedule changes of that audit: the feed, and the workers with one lane in that no
-/// request covers.
-const STEADY: &str = "entry,node,worker,lane,number,extra
-fed,,,,1,
-fed,,,,2,
-fed,,,,3,
-fed,,,,4,
-issued,,,,1,
-fed,,,,5,
-fed,,,,6,
-fed,,,,7,
-fed,,,,8,
-issued,,,,2,
-fed,,,,9,
-fed,,,,10,
-stopped,,,,,
-met,tally,0,4,4,
-ended,tally,0,4,,
-state,tally,0,,1,dee
-met,tally,1,5,1,
-met,tally,1,5,8,
-met,tally,1,5,9,
-met,tally,1,5,10,
-ended,tally,1,5,,
-state,tally,1,,2,ann
-state,tally,1,,2,gus
-met,review,0,6,2,
-met,review,0,6,6,
-ended,review,0,6,,
-met,watch,0,9,9,
-met,watch,0,9,10,
-ended,watch,0,9,,
-";
 
 fn shelf(alloc: Global) -> Result<MemoryShelf, NoMemory> {
     shelf_of(
@@ -103,21 +69,9 @@ fn joined(alloc: Global, setup: Box<Setup>, both: Both) -> Option<Box<RunRecord>
     }
 }
 
-// Whether a record is of no node whose records depend on the schedule.
-fn is_steady(record: &str) -> bool {
-    let node = record.split(',').nth(1).unwrap_or("");
-    node != "rate" && node != "big" && node != "hot" && node != "often"
-}
-
 fn is_audit(audit: &str) -> bool {
-    let mut wanted = STEADY.lines();
-    let mut well = audit.lines().count() == RECORDS;
-    for line in audit.lines() {
-        if is_steady(line) {
-            well &= wanted.next().unwrap_or("") == line;
-        }
-    }
-    well && wanted.next().is_none()
+    audit.lines().count() == RECORDS
+        && is_steady_audit(audit, "entry,node,worker,lane,number,extra\n")
 }
 
 fn are_whole(texts: &Texts) -> bool {

@@ -1,7 +1,7 @@
 //! The ten payments in two parts, cut after row 8.
 
 use crate::tests::texts::TEN;
-use crate::tests::{Around, Input, Left, is_done, leaves, shelf_of};
+use crate::tests::{Around, Input, Left, check_call, is_done, shelf_of};
 use std::alloc::Global;
 use std::str;
 use std::sync::Wait;
@@ -44,7 +44,7 @@ fn save(rt: HostRuntime) {
         after: [Some(REVIEW_ALERTS), None, Some(SAVE_OF_8)],
     };
     for line in SAVE {
-        assert!(rt; leaves(&rt, rt.alloc(), before(OLD), line, left), "{line}");
+        check_call(&rt, before(OLD), line, left);
     }
 }
 
@@ -56,10 +56,7 @@ fn resume(rt: HostRuntime) {
         after: [Some(LATER_ALERTS), None, Some(SAVE_OF_8)],
     };
     for line in RESUME {
-        assert!(rt;
-            leaves(&rt, rt.alloc(), before(SAVE_OF_8), line, left),
-            "{line}"
-        );
+        check_call(&rt, before(SAVE_OF_8), line, left);
     }
 }
 
@@ -105,10 +102,7 @@ fn refused_savepoints(rt: HostRuntime) {
                 out,
                 after: [Some(OLD), Some(OLD), Some(save)],
             };
-            assert!(rt;
-                leaves(&rt, rt.alloc(), before(save), line, left),
-                "{line} {save}"
-            );
+            check_call(&rt, before(save), line, left);
         }
     }
 }
@@ -219,9 +213,6 @@ fn another_number_of_workers(rt: HostRuntime) {
             out,
             after: [alerts, None, Some(COUNTED)],
         };
-        assert!(rt;
-            leaves(&rt, rt.alloc(), around, line, left),
-            "{line}: {status}"
-        );
+        check_call(&rt, around, line, left);
     }
 }

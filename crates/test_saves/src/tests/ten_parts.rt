@@ -17,7 +17,7 @@ use std::str;
 use std::sync::Wait;
 use std::thread::Threads;
 use test_runs::{job_of, setup_of};
-use test_texts::PAYMENTS_ALERTS;
+use test_texts::{PAYMENTS_ALERTS, times};
 use tuple_trace::{Bytes, FeedRows, MAX_THREADS, NoMemory, OpenGate, Rows, USUAL_CAPACITY};
 
 const ROWS: u32 = 10;
@@ -157,11 +157,6 @@ where
         start = go_on(engine, row, start, shown)?;
     }
     Some(())
-}
-
-// How often the text has the line.
-fn times(text: &str, line: &str) -> usize {
-    text.lines().filter(|other| *other == line).count()
 }
 
 fn records(text: &str) -> usize {

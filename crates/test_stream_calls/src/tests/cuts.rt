@@ -3,9 +3,10 @@ ghost use Rattle.std.specs.Prelude.{◌≡◌, IfSome, None};
 ghost use Rattle.payments.specs.Memory.{draft_of};
 
 use crate::tests::texts::{AFTER_9, ALERTS, CHAIN, PAYMENTS};
-use crate::tests::{STREAM, holds, say, tap_of, word};
+use crate::tests::{STREAM, check_alerts, check_said, say, tap_of, word};
 use payments::{Calls, MemoryShelf, store};
 use std::alloc::Global;
+use std::process::Abort;
 use std::sync::Wait;
 use std::thread::Threads;
 
@@ -24,16 +25,19 @@ pub fn shelf_with(alloc: Global, requests: &str) -> Option<MemoryShelf>
     Some(shelf)
 }
 
-/// Whether the four payments give their alerts, and this line, if at most so many bytes come at a
-/// time.
-fn streams<R>(rt: &R, alloc: Global, requests: &str, most: usize, line: &str) -> Option<bool>
+/// Asserts that the four payments give their alerts, and this line, if at most `most` bytes come at
+/// a time. `None` if memory runs out.
+fn check_stream<R>(rt: &R, requests: &str, most: usize, line: &str) -> Option<()>
 where
-    R: Threads + Wait + Copy + Send + Sync + 'static,
+    R: AllocGlobal + Abort + Threads + Wait + Copy + Send + Sync + 'static,
 {
+    let alloc = rt.alloc();
     let mut shelf = shelf_with(alloc, requests)?;
     let mut tap = tap_of(alloc, PAYMENTS, most)?;
     let said = say(rt, alloc, STREAM, &mut shelf, &mut tap)?;
-    Some(said.is(0, line) && holds(alloc, &shelf, "alerts.csv", ALERTS))
+    check_said(rt, &said, 0, line);
+    check_alerts(rt, &shelf, ALERTS);
+    Some(())
 }
 
 const NO_REQUESTS: &str = "rows 4 alerts 2 requests 0 refused 0\n";
@@ -41,14 +45,14 @@ const NO_REQUESTS: &str = "rows 4 alerts 2 requests 0 refused 0\n";
 /// With one byte at a time each row is a part.
 #[test]
 fn one_row_a_part(rt: HostRuntime) {
-    assert!(rt; streams(&rt, rt.alloc(), "", 1, NO_REQUESTS) == Some(true));
+    check_stream(&rt, "", 1, NO_REQUESTS).expect(&rt, "memory");
 }
 
 /// Each byte of the input is the last of a read.
 #[test]
 fn each_cut(rt: HostRuntime) {
     for most in 1..PAYMENTS.len() {
-        assert!(rt; streams(&rt, rt.alloc(), "", most, NO_REQUESTS) == Some(true));
+        check_stream(&rt, "", most, NO_REQUESTS).expect(&rt, "memory");
     }
 }
 
@@ -56,5 +60,5 @@ fn each_cut(rt: HostRuntime) {
 #[test]
 fn end_with_waiting_requests(rt: HostRuntime) {
     let line = "rows 4 alerts 2 requests 1 refused 0\n";
-    assert!(rt; streams(&rt, rt.alloc(), AFTER_9, 1, line) == Some(true));
+    check_stream(&rt, AFTER_9, 1, line).expect(&rt, "memory");
 }

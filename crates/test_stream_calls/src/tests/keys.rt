@@ -3,7 +3,7 @@ use crate::tests::left::{Case, bytes_of, empty, first_loss, left_after};
 use payments::MemoryShelf;
 use std::alloc::Global;
 use std::str;
-use test_texts::COUNTER;
+use test_texts::{COUNTER, times};
 use tuple_trace::NoMemory;
 
 /// How many keys there are. They come in turn.
@@ -38,10 +38,6 @@ fn counted(payments: &str) -> Case<'_> {
         resume: "stream job.toml requests.toml alerts.csv audit.csv --save save.csv --every 20 \
             --resume",
     }
-}
-
-fn times(text: &str, line: &str) -> usize {
-    text.lines().filter(|other| *other == line).count()
 }
 
 /// Whether each row has one alert, which counts the rows with its key up to it, and there is no

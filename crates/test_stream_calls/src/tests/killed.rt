@@ -1,7 +1,7 @@
 //! Streams that are killed at each byte that they write, and others that go on.
 use crate::tests::left::{Case, empty, first_loss, left_after};
 use crate::tests::texts::{AFTER_3, CHAIN, LATE_ALERTS, PAYMENTS, TWO};
-use crate::tests::{RESUMING, SAVING, holds};
+use crate::tests::{RESUMING, SAVING, check_alerts};
 
 /// A read brings two of the four payments, and a savepoint follows each part.
 const PAIRS: Case<'static> = Case {
@@ -38,7 +38,7 @@ fn killed_and_resumed(rt: HostRuntime) {
     let nothing = empty(rt.alloc());
     let from = left_after(&rt, rt.alloc(), &FIRST_PAIR, &nothing).expect(&rt, "memory");
     let wanted = left_after(&rt, rt.alloc(), &PAIRS, &nothing).expect(&rt, "memory");
-    assert!(rt; holds(rt.alloc(), &wanted, "alerts.csv", LATE_ALERTS));
+    check_alerts(&rt, &wanted, LATE_ALERTS);
     assert_eq!(rt;
         first_loss(&rt, rt.alloc(), &PAIRS, &from, 1, &wanted),
         None
@@ -51,7 +51,7 @@ fn killed_and_resumed(rt: HostRuntime) {
 fn parts_are_made_again(rt: HostRuntime) {
     let nothing = empty(rt.alloc());
     let wanted = left_after(&rt, rt.alloc(), &ROWS, &nothing).expect(&rt, "memory");
-    assert!(rt; holds(rt.alloc(), &wanted, "alerts.csv", LATE_ALERTS));
+    check_alerts(&rt, &wanted, LATE_ALERTS);
     assert_eq!(rt;
         first_loss(&rt, rt.alloc(), &ROWS, &nothing, 7, &wanted),
         None

@@ -100,7 +100,7 @@ const READINGS: [(&str, &str, (usize, usize, Option<u32>)); 4] = [
 #[test]
 fn later_requests_come_after_the_known_ones(rt: HostRuntime) {
     for (first, later, wanted) in READINGS {
-        assert!(rt; after_reading(&rt, rt.alloc(), first, later) == wanted);
+        assert_eq!(rt; after_reading(&rt, rt.alloc(), first, later), wanted);
     }
 }
 
@@ -149,6 +149,6 @@ const SAVES: [(&str, &str, Gone); 4] = [
 #[test]
 fn streams_go_on_from_their_savepoint(rt: HostRuntime) {
     for (save, requests, wanted) in SAVES {
-        assert!(rt; after_resume(&rt, rt.alloc(), save, requests) == wanted);
+        assert_eq!(rt; after_resume(&rt, rt.alloc(), save, requests), wanted);
     }
 }

@@ -74,15 +74,17 @@ fn only_wait(setup: &Setup) -> Option<u64> {
     Some(setup.after(1))
 }
 
-/// Row 3 is the last of the first part, so the second request is left for a later one.
-fn is_parted(part: &NextPart) -> bool {
-    only_wait(&part.setup) == Some(2) && part.pending.len() == 1 && part.last == 3
+/// The row that the only request of a part waits for, how many requests are left for later parts,
+/// and the last row of the part.
+fn numbers_of(part: &NextPart) -> (Option<u64>, usize, u64) {
+    (only_wait(&part.setup), part.pending.len(), part.last)
 }
 
+/// Row 3 is the last of the first part, so the second request is left for a later one.
 #[test]
 fn requests_wait_for_their_part(rt: HostRuntime) {
     let part = begun(&rt, rt.alloc(), JOB, REQUESTS).next_part(rt.alloc(), 3);
-    assert!(rt; is_parted(&part.expect(&rt, "memory")));
+    assert_eq!(rt; numbers_of(&part.expect(&rt, "memory")), (Some(2), 1, 3));
 }
 
 #[test]

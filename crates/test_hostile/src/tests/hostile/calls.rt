@@ -1,6 +1,6 @@
 //! Each call of the outside fails alone.
 
-use crate::tests::hostile::{Around, Left, Stored, Tried, first_wrong, four, leaves};
+use crate::tests::hostile::{Around, Left, Stored, Tried, check_left, check_tried, four};
 use test_texts::{AUDIT_OF_FOUR, TWO_ALERTS};
 
 /// The calls of the shelf that read, in their order, and the line if one of them fails.
@@ -20,7 +20,7 @@ fn whole_or_none(text: &'static str, kept: usize, failing: usize) -> Stored<'sta
     if failing < kept {
         Stored::Made(false)
     } else {
-        Stored::Text(text.as_bytes())
+        Stored::Text(text)
     }
 }
 
@@ -66,12 +66,12 @@ pub fn call_count(step: usize) -> usize {
 
 #[test]
 fn each_call_of_the_shelf_fails_alone(rt: HostRuntime) {
-    for step in [1, 16, 1_000_000] {
-        assert_eq!(rt;
-            first_wrong(&rt, rt.alloc(), Tried::Failing { step }),
-            None,
-            "step {step}"
-        );
+    for (what, step) in [
+        ("bytes", 1),
+        ("pieces of 16", 16),
+        ("whole texts", 1_000_000),
+    ] {
+        check_tried(&rt, what, Tried::Failing { step });
     }
 }
 
@@ -86,7 +86,7 @@ fn first_write_of_the_output_fails(rt: HostRuntime) {
         out: Some(""),
         ..left_at(call_count(1_000_000), 1_000_000)
     };
-    assert!(rt; leaves(&rt, rt.alloc(), &around, &left));
+    check_left(&rt, "the output fails", &around, &left);
 }
 
 /// The status of a fault stays if its line can't be printed.
@@ -98,6 +98,6 @@ fn line_of_a_fault_is_refused(rt: HostRuntime) {
             refusing: Some(0),
             ..four()
         };
-        assert!(rt; leaves(&rt, rt.alloc(), &around, &Left::refused(5, "")));
+        check_left(&rt, "a fault", &around, &Left::refused(5, ""));
     }
 }

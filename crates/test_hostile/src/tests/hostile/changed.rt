@@ -1,10 +1,10 @@
 //! A job file of which one byte is another.
 
-use crate::tests::hostile::{Around, Text, Tried, first_wrong, four};
+use crate::tests::hostile::{Around, Text, Tried, check_tried, four};
 use test_texts::CHAIN;
 
-/// The bytes that stand in the place of each, as numbers and as texts.
-const BYTES: [(u8, &[u8]); 3] = [(0, b"\0"), (255, b"\xff"), (b'"', b"\"")];
+/// The bytes that stand in the place of each, and what they are called.
+const BYTES: [(&str, &[u8]); 3] = [("byte 0", b"\0"), ("byte 255", b"\xff"), ("a quote", b"\"")];
 
 /// The chain with this byte at a place.
 pub fn around_at(place: usize, byte: &'static [u8]) -> Around<'static> {
@@ -31,11 +31,7 @@ pub fn status_at(place: usize, byte: &[u8]) -> u8 {
 
 #[test]
 fn each_byte_of_a_job_file_is_changed(rt: HostRuntime) {
-    for (byte, text) in BYTES {
-        assert_eq!(rt;
-            first_wrong(&rt, rt.alloc(), Tried::Changed(text)),
-            None,
-            "byte {byte}"
-        );
+    for (what, byte) in BYTES {
+        check_tried(&rt, what, Tried::Changed(byte));
     }
 }

@@ -1,6 +1,6 @@
 //! Sizes one past their limits, and the lines of their faults.
 
-use crate::tests::hostile::{Around, Left, Text, four, leaves};
+use crate::tests::hostile::{Around, Left, Text, check_left, four};
 
 /// 65 nodes.
 const NODES: Text<'static> = Text {
@@ -17,7 +17,7 @@ fn too_many_nodes(rt: HostRuntime) {
         ..four()
     };
     let left = Left::refused(2, "fault 2 J3 nodes 65\n");
-    assert!(rt; leaves(&rt, rt.alloc(), &around, &left));
+    check_left(&rt, "nodes", &around, &left);
 }
 
 /// Three splits in a row: 1 + 16 + 256 + 4,096 tuples of a row come to the splits and the sink.
@@ -45,7 +45,7 @@ fn too_heavy_a_job(rt: HostRuntime) {
         ..four()
     };
     let left = Left::refused(2, "fault 2 J10 weight 4369\n");
-    assert!(rt; leaves(&rt, rt.alloc(), &around, &left));
+    check_left(&rt, "weight", &around, &left);
 }
 
 /// An account of 49 bytes.
@@ -60,7 +60,7 @@ fn too_long_an_account(rt: HostRuntime) {
         ..four()
     };
     let left = Left::refused(4, "fault 4 P6 row 1 column 0\n");
-    assert!(rt; leaves(&rt, rt.alloc(), &around, &left));
+    check_left(&rt, "account", &around, &left);
 }
 
 /// 65 requests.
@@ -78,5 +78,5 @@ fn too_many_requests(rt: HostRuntime) {
         ..four()
     };
     let left = Left::refused(3, "fault 3 F3 requests 65\n");
-    assert!(rt; leaves(&rt, rt.alloc(), &around, &left));
+    check_left(&rt, "requests", &around, &left);
 }

@@ -1,8 +1,10 @@
+use crate::tests::check_text;
 use crate::tests::live::{AFTER_2, live_words};
 use fries_call::{Host, Outcome};
 use live_control::MemoryAsks;
 use payments::{Calls, MemoryShelf, MemorySink};
 use std::alloc::Global;
+use std::process::Abort;
 use std::str;
 use std::sync::Wait;
 use std::thread::Threads;
@@ -35,33 +37,27 @@ const FILES: [(&str, &str); 3] = [
 
 const SUMMARY: &str = "rows 4 alerts 2 requests 1 refused 0\n";
 
-// Whether the call leaves what it is to leave.
-fn leaves<R>(rt: &R, alloc: Global, case: Case) -> bool
+// Asserts that the call leaves what it is to leave.
+fn check_call<R>(rt: &R, case: Case) -> Result<(), NoMemory>
 where
-    R: Threads + Wait + Copy + Send + Sync + 'static,
+    R: AllocGlobal + Abort + Threads + Wait + Copy + Send + Sync + 'static,
 {
-    matches!(is_left(rt, alloc, case), Ok(true))
+    let words = live_words(rt.alloc(), "1", "16")?;
+    let mut asks = asks_of(rt.alloc(), case)?;
+    check_words(rt, &words, &mut asks, case)?;
+    check_rest(rt, &asks, case);
+    Ok(())
 }
 
-fn is_left<R>(rt: &R, alloc: Global, case: Case) -> Result<bool, NoMemory>
-where
-    R: Threads + Wait + Copy + Send + Sync + 'static,
-{
-    let words = live_words(alloc, "1", "16")?;
-    let mut asks = asks_of(alloc, case)?;
-    Ok(answers(rt, alloc, &words, &mut asks, case)? && asks.left().len() == case.left)
+fn check_rest(rt: &impl Abort, asks: &MemoryAsks, case: Case) {
+    assert_eq!(rt; asks.left().len(), case.left);
 }
 
-fn answers<R>(
-    rt: &R,
-    alloc: Global,
-    words: &[Word],
-    asks: &mut MemoryAsks,
-    case: Case,
-) -> Result<bool, NoMemory>
+fn check_words<R>(rt: &R, words: &[Word], asks: &mut MemoryAsks, case: Case) -> Result<(), NoMemory>
 where
-    R: Threads + Wait + Copy + Send + Sync + 'static,
+    R: AllocGlobal + Abort + Threads + Wait + Copy + Send + Sync + 'static,
 {
+    let alloc = rt.alloc();
     let mut shelf = MemoryShelf::new(alloc, 1_000_000, Calls::new(alloc));
     for (name, text) in FILES {
         put_text(alloc, name, text, &mut shelf)?;
@@ -73,7 +69,9 @@ where
         gate: &OpenGate,
     };
     let outcome = call_asking(&host, words, &mut shelf, &mut out, asks)?;
-    Ok(is_told(&outcome, out.written(), case) && are_files(alloc, &shelf, case))
+    check_left(rt, &outcome, out.written(), case);
+    check_files(rt, &shelf, case);
+    Ok(())
 }
 
 fn asks_of(alloc: Global, case: Case) -> Result<MemoryAsks, NoMemory> {
@@ -82,31 +80,25 @@ fn asks_of(alloc: Global, case: Case) -> Result<MemoryAsks, NoMemory> {
     Ok(MemoryAsks::new(bytes, failing))
 }
 
-fn is_told(outcome: &Outcome, out: &[u8], case: Case) -> bool {
-    outcome.status == case.status
-        && out == case.printed.as_bytes()
-        && first_after(outcome) == Some(case.after)
+fn check_left(rt: &impl Abort, outcome: &Outcome, out: &[u8], case: Case) {
+    check_text(rt, out, case.printed);
+    assert_eq!(rt; outcome.status, case.status);
+    assert_eq!(rt; first_after(outcome), Some(case.after));
 }
 
-fn are_files(alloc: Global, shelf: &MemoryShelf, case: Case) -> bool {
-    match file(alloc, shelf, "alerts.csv") {
-        Some(alerts) => alerts == TWO_ALERTS.as_bytes() && is_fed(alloc, shelf, case),
-        None => false,
-    }
+fn check_files(rt: &(impl AllocGlobal + Abort), shelf: &MemoryShelf, case: Case) {
+    check_text(rt, bytes_of(rt.alloc(), shelf, "alerts.csv"), TWO_ALERTS);
+    let audit = str::from_utf8(bytes_of(rt.alloc(), shelf, "audit.csv")).unwrap_or("");
+    assert!(rt;
+        audit.contains(case.feed),
+        "found:\n{audit}\nwanted:\n{}",
+        case.feed
+    );
 }
 
-fn is_fed(alloc: Global, shelf: &MemoryShelf, case: Case) -> bool {
-    match file(alloc, shelf, "audit.csv") {
-        Some(audit) => has_part(audit, case.feed),
-        None => false,
-    }
-}
-
-fn has_part(text: &[u8], part: &str) -> bool {
-    match str::from_utf8(text) {
-        Ok(text) => text.contains(part),
-        Err(_) => false,
-    }
+// What a file holds; no bytes if it isn't there.
+fn bytes_of<'a>(alloc: Global, shelf: &'a MemoryShelf, name: &str) -> &'a [u8] {
+    file(alloc, shelf, name).unwrap_or(&[])
 }
 
 fn first_after(outcome: &Outcome) -> Option<u64> {
@@ -127,7 +119,7 @@ fn no_release(rt: HostRuntime) {
         left: 0,
         after: 4,
     };
-    assert!(rt; leaves(&rt, rt.alloc(), case));
+    check_call(&rt, case).expect(&rt, "memory");
 }
 
 #[test]
@@ -141,5 +133,5 @@ fn failed_release_input(rt: HostRuntime) {
         left: 0,
         after: 4,
     };
-    assert!(rt; leaves(&rt, rt.alloc(), case));
+    check_call(&rt, case).expect(&rt, "memory");
 }
