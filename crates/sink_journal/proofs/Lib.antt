@@ -1,2 +1,4 @@
 pub mod FieldLemmas
 pub mod PartLemmas
+pub mod CellLemmas
+pub mod SmallLemmas

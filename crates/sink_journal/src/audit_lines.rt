@@ -39,6 +39,29 @@ impl Model for AuditLines {
     ghost view = { λ a. a.lines };
 }
 
+// A worker, and the texts with which its records begin.
+#[derive(Clone, Copy)]
+struct Front<'n, 'f> {
+    node: &'n [u8],
+    place: usize,
+    /// The fields of the node and of the place, as each record of the worker has them.
+    worker: &'f [u8],
+    /// The first three fields of a tuple that it met.
+    met: &'f [u8],
+    ghost fields: { worker.now ≡ fields_text default_writer (node.now ∷ decimal place ∷ []) },
+    ghost first: { met.now ≡ codes "met" ++ worker.now },
+}
+
+// A step of a worker: its word, and what there is of a lane, a number and a birth.
+#[derive(Clone, Copy)]
+struct StepFields<'a> {
+    entry: &'static [u8],
+    lane: Option<u64>,
+    number: Option<u64>,
+    birth: &'a [u32],
+    ghost plain: { needs_quotes default_writer entry.now ≡ false },
+}
+
 impl AuditLines {
     /// No records. Room is made for about `records` of them, if there is memory.
     pub fn new(alloc: Global, records: usize) -> Self
@@ -142,7 +165,13 @@ impl AuditLines {
     {
         let worker = worker_fields(self.alloc, node, place)?;
         let met = met_fields(self.alloc, worker.as_slice())?;
-        self.write_journal(node, place, worker.as_slice(), met.as_slice(), steps)
+        let front = Front {
+            node,
+            place,
+            worker: worker.as_slice(),
+            met: met.as_slice(),
+        };
+        self.write_journal(front, steps)
     }
 
     /// Appends a record for each count of the worker at this place of the node with this name.
@@ -166,108 +195,93 @@ impl AuditLines {
     {
         let worker = worker_fields(self.alloc, node, place)?;
         let met = met_fields(self.alloc, worker.as_slice())?;
-        let journal = journal.as_slice();
-        self.write_journal(node, place, worker.as_slice(), met.as_slice(), journal)?;
+        let front = Front {
+            node,
+            place,
+            worker: worker.as_slice(),
+            met: met.as_slice(),
+        };
+        self.write_journal(front, journal.as_slice())?;
         self.write_state(node, place, worker.as_slice(), state)
     }
 
-    // `worker` has the fields of the node and of the place, as each record of the worker has them,
-    // and `met` the first three fields of a tuple that it met.
-    fn write_journal(
-        &mut self,
-        node: &[u8],
-        place: usize,
-        worker: &[u8],
-        met: &[u8],
-        journal: &[Entry],
-    ) -> Result<(), NoMemory>
-        requires fields { worker.now ≡ fields_text default_writer (node.now ∷ decimal place ∷ []) }
-        requires front { met.now ≡ codes "met" ++ worker.now }
-        ensures { OnOk result (self.new ≡
-            self.old ++ records_text (map (entry_fields node.now place) journal.now)) }
+    fn write_journal(&mut self, front: Front<'_, '_>, journal: &[Entry]) -> Result<(), NoMemory>
+        ensures { OnOk result (self.new ≡ self.old
+            ++ records_text (map (entry_fields front.entry.node.now front.entry.place)
+            journal.now)) }
     {
         for entry in journal {
-            self.write_entry(node, place, worker, met, entry)?;
+            self.write_entry(front, entry)?;
         }
         Ok(())
     }
 
-    fn write_entry(
-        &mut self,
-        node: &[u8],
-        place: usize,
-        worker: &[u8],
-        met: &[u8],
-        entry: &Entry,
-    ) -> Result<(), NoMemory>
-        requires fields { worker.now ≡ fields_text default_writer (node.now ∷ decimal place ∷ []) }
-        requires front { met.now ≡ codes "met" ++ worker.now }
-        ensures { OnOk result (self.new ≡
-            self.old ++ record_text (entry_fields node.now place entry.now)) }
+    fn write_entry(&mut self, front: Front<'_, '_>, entry: &Entry) -> Result<(), NoMemory>
+        ensures { OnOk result (self.new ≡ self.old
+            ++ record_text (entry_fields front.entry.node.now front.entry.place entry.now)) }
     {
-        match entry {
+        let step = match entry {
             Entry::Met { lane, tuple } => {
                 let (lane, birth) = (u64::from(*lane), tuple.birth.as_slice());
-                self.write_met(node, place, worker, met, lane, tuple.row, birth)
+                return self.write_met(front, lane, tuple.row, birth);
             }
-            Entry::Marked { lane, request } => {
-                let lane = Some(u64::from(*lane));
-                self.write_step(node, place, worker, b"marked", lane, Some(*request), &[])
-            }
-            Entry::Turned { request } => {
-                self.write_step(node, place, worker, b"turned", None, Some(*request), &[])
-            }
-            Entry::Ended { lane } => {
-                let lane = Some(u64::from(*lane));
-                self.write_step(node, place, worker, b"ended", lane, None, &[])
-            }
-        }
+            Entry::Marked { lane, request } => StepFields {
+                entry: b"marked",
+                lane: Some(u64::from(*lane)),
+                number: Some(*request),
+                birth: &[],
+            },
+            Entry::Turned { request } => StepFields {
+                entry: b"turned",
+                lane: None,
+                number: Some(*request),
+                birth: &[],
+            },
+            Entry::Ended { lane } => StepFields {
+                entry: b"ended",
+                lane: Some(u64::from(*lane)),
+                number: None,
+                birth: &[],
+            },
+        };
+        self.write_step(front, step)
     }
 
     // A tuple that the worker met. One without a birth is appended as one text.
     #[inline]
     fn write_met(
         &mut self,
-        node: &[u8],
-        place: usize,
-        worker: &[u8],
-        met: &[u8],
+        front: Front<'_, '_>,
         lane: u64,
         row: u64,
         birth: &[u32],
     ) -> Result<(), NoMemory>
-        requires fields { worker.now ≡ fields_text default_writer (node.now ∷ decimal place ∷ []) }
-        requires front { met.now ≡ codes "met" ++ worker.now }
-        ensures { OnOk result (self.new ≡ self.old ++ record_text (codes "met" ∷ node.now
-            ∷ decimal place ∷ decimal lane ∷ decimal row ∷ dotted birth.now ∷ [])) }
+        ensures { OnOk result (self.new ≡ self.old ++ record_text (codes "met"
+            ∷ front.entry.node.now ∷ decimal front.entry.place ∷ decimal lane ∷ decimal row
+            ∷ dotted birth.now ∷ [])) }
     {
         if birth.is_empty() {
-            return self.lines.end_laned(met, lane, row);
+            return self.lines.end_laned(front.met, lane, row);
         }
-        self.write_step(node, place, worker, b"met", Some(lane), Some(row), birth)
+        let step = StepFields {
+            entry: b"met",
+            lane: Some(lane),
+            number: Some(row),
+            birth,
+        };
+        self.write_step(front, step)
     }
 
-    // A step of the worker, with what there is of a lane, a number and a birth.
     #[inline]
-    fn write_step(
-        &mut self,
-        node: &[u8],
-        place: usize,
-        worker: &[u8],
-        entry: &[u8],
-        lane: Option<u64>,
-        number: Option<u64>,
-        birth: &[u32],
-    ) -> Result<(), NoMemory>
-        requires fields { worker.now ≡ fields_text default_writer (node.now ∷ decimal place ∷ []) }
-        requires plain { needs_quotes default_writer entry.now ≡ false }
-        ensures { OnOk result (self.new ≡ self.old ++ record_text (entry.now ∷ node.now
-            ∷ decimal place ∷ shown lane ∷ shown number ∷ dotted birth.now ∷ [])) }
+    fn write_step(&mut self, front: Front<'_, '_>, step: StepFields<'_>) -> Result<(), NoMemory>
+        ensures { OnOk result (self.new ≡ self.old ++ record_text (step.entry.entry.now
+            ∷ front.entry.node.now ∷ decimal front.entry.place ∷ shown step.entry.lane
+            ∷ shown step.entry.number ∷ dotted step.entry.birth.now ∷ [])) }
     {
-        self.begin(entry, worker)?;
-        self.lines.add_shown(lane)?;
-        self.lines.add_shown(number)?;
-        self.lines.add_dotted(birth)?;
+        self.begin(step.entry, front.worker)?;
+        self.lines.add_shown(step.lane)?;
+        self.lines.add_shown(step.number)?;
+        self.lines.add_dotted(step.birth)?;
         self.lines.end()
     }
 

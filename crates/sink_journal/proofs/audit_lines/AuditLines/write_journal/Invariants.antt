@@ -5,5 +5,5 @@ use Rattle.sink_journal.proofs.audit_lines.AuditLines.write_journal.Given as goa
 
 abbrev pub invariant-loop-entry : goal.invariant-loop-entry
 invariant-loop-entry l =
-    l.self ++ records_text (map (entry_fields l.node l.place) (drop l.entry-index l.journal))
-    ≡ l.fn.self ++ records_text (map (entry_fields l.node l.place) l.journal)
+    l.self ++ records_text (map (entry_fields l.front.node.now l.front.place) (drop l.entry-index l.journal))
+    ≡ l.fn.self ++ records_text (map (entry_fields l.front.node.now l.front.place) l.journal)
