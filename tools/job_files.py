@@ -8,13 +8,17 @@ KEYS = {
     "map": ("steps",),
     "enrich": ("key", "into", "table", "other"),
     "count": ("key", "add", "into"),
+    "dedupe": ("key",),
+    "clamp": ("on", "low", "high"),
     "split": ("on", "by", "most"),
     "replicate": (),
     "sink": ("columns",),
 }
-# The kinds that no request changes, and those that requests change into each other.
+# The kinds that no request changes, those that requests change into each other, and those that keep
+# a count for each text of their key.
 FIXED = ("source", "replicate", "sink")
-FREE = ("filter", "map", "enrich", "split")
+FREE = ("filter", "map", "enrich", "clamp", "split")
+COUNTING = ("count", "dedupe")
 FORMS = {str: "a text", int: "a whole number", list: "an array", dict: "a table"}
 
 
@@ -211,6 +215,10 @@ def detail(table):
         return f"{table['into']} = {table['table']}[{table['key']}]"
     if kind == "count":
         return f"{table['into']} += {table['add']} by {table['key']}"
+    if kind == "dedupe":
+        return f"the first of each {table['key']}"
+    if kind == "clamp":
+        return f"{table['on']} between {table['low']} and {table['high']}"
     if kind == "split":
         return f"{table['on']} at {table['by']!r} into {table['most']} at most"
     return ""

@@ -1,6 +1,8 @@
 """Pictures of jobs: where nodes and edges stand, and the SVG of that. `tools/graph` makes them."""
 import html
 
+from job_files import COUNTING
+
 INK = "#24292f"
 DIM = "#57606a"
 FAINT = "#6e7781"
@@ -145,12 +147,17 @@ def outline(kind, x, y, w, h):
             f"M{left},{top} H{right - 12} L{right},{top + 12} V{low} H{left} Z"
             f" M{right - 12},{top} V{top + 12} H{right}"
         )
-    if kind == "count":
+    if kind in COUNTING:
         r = w / 2
         return (
             f"M{left},{top + 6} A{r},7 0 0 1 {right},{top + 6}"
             f" V{low - 6} A{r},7 0 0 1 {left},{low - 6} Z"
             f" M{left},{top + 6} A{r},7 0 0 0 {right},{top + 6}"
+        )
+    if kind == "clamp":
+        return (
+            f"M{left},{top} H{right} V{low} H{left} Z"
+            f" M{left + 7},{top} V{low} M{right - 7},{top} V{low}"
         )
     if kind == "split":
         return f"M{left},{top + 7} L{right},{top} V{low} L{left},{low - 7} Z"
@@ -248,16 +255,16 @@ class Picture:
         style = f'stroke="{node.border()}" stroke-width="1.5" stroke-linejoin="round"'
         parts = []
         if node.head:
-            high = HIGH + (23 if node.kind == "count" else 11)
+            high = HIGH + (23 if node.kind in COUNTING else 11)
             around = outline(node.kind, x, y, w + 11, high).split(" M")[0]
             parts.append(f'<path d="{around}" fill="#ffffff" {style}/>')
-        high = HIGH + 12 if node.kind == "count" else HIGH
+        high = HIGH + 12 if node.kind in COUNTING else HIGH
         around = outline(node.kind, x, y, w, high)
         parts.append(f'<path d="{around}" fill="{node.fill()}" {style}/>')
         rows = [(node.name, 13, INK, "bold"), (node.second_line(), 10.5, DIM, "normal")]
         if node.told:
             rows.append((shortened(node.told), 10.5, INK, "normal"))
-        y += (-3 if len(rows) == 2 else -10) + (5 if node.kind == "count" else 0)
+        y += (-3 if len(rows) == 2 else -10) + (5 if node.kind in COUNTING else 0)
         for text, size, colour, weight in rows:
             parts.append(self.text(x, y, text, size, colour, "middle", weight))
             y += 15

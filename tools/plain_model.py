@@ -2,8 +2,8 @@
 
 A border is the last row that a request leaves to the old functions. Each later row meets its new
 functions. The rows between two borders are taken node by node, each node's tuples in the order of
-the rows. That is as if one row after another went through the whole graph, since only counts keep
-anything from one tuple to the next.
+the rows. That is as if one row after another went through the whole graph, since only the counts of
+counts and dedupes are kept from one tuple to the next.
 
 Jobs and requests are the tables of their TOML documents. `tools/exact_jobs` compares streams with
 this model.
@@ -46,7 +46,7 @@ def after_steps(steps, fields):
 
 
 def made_of(function, it, ports, counts, tables):
-    """What a node makes of a tuple: pairs of a port and a tuple. A count raises its counts."""
+    """What a node makes of a tuple: pairs of a port and a tuple. Some kinds change the counts."""
 
     def having(column, value, *born):
         return it._replace(fields={**it.fields, column: value}, birth=it.birth + born)
@@ -68,6 +68,13 @@ def made_of(function, it, ports, counts, tables):
         key = fields[function["key"]]
         counts[key] = cut(counts.get(key, 0) + number_of(function["add"], fields))
         return [(0, having(function["into"], counts[key]))]
+    if kind == "dedupe":
+        key = fields[function["key"]]
+        counts[key] = cut(counts.get(key, 0) + 1)
+        return [(0, it)] if counts[key] <= 1 else []
+    if kind == "clamp":
+        number, low, high = fields[function["on"]], function["low"], function["high"]
+        return [(0, having(function["on"], max(low, min(high, number))))]
     if kind == "split":
         pieces = fields[function["on"]].split(function["by"])[: function["most"]]
         return [(0, having(function["on"], piece, at)) for at, piece in enumerate(pieces)]
@@ -149,8 +156,8 @@ class Model:
     """A job while rows are run."""
 
     def __init__(self, job, places):
-        """`places` has the place of a tuple among those that a count met, by the node, the row and
-        the birth. Tuples that it leaves out are met in the order of the rows."""
+        """`places` has the place of a tuple among those that a count or a dedupe met, by the node,
+        the row and the birth. Tuples that it leaves out are met in the order of the rows."""
         self.job = job
         self.places = places
         self.columns = [Column(text) for text in job["columns"]]

@@ -1,11 +1,14 @@
 """Makes jobs, requests and payments from a seed. `tools/test_tools` tries the tools on them."""
 import random
 
+from job_files import COUNTING, FREE
+
 COLUMNS = ["account:text", "tags:text", "amount:cents", "risk:number:own", "seen:number:own"]
 TABLES = {"low": {"ann": 1, "bob": 2}, "high": {"ann": 3, "cid": 5}}
 ACCOUNTS = ("ann", "bob", "cid", "dee")
-KINDS = ("filter", "filter", "map", "enrich", "count", "split", "replicate")
-FREE = ("filter", "map", "enrich", "split")
+KINDS = ("filter", "filter", "map", "enrich", "count", "dedupe", "clamp", "split", "replicate")
+# Columns of numbers, and what the numbers of a clamp are multiplied by there.
+AMOUNTS = {"amount": 10000, "risk": 1, "seen": 1}
 
 
 def toml(value):
@@ -87,6 +90,12 @@ class RandomJob:
         if kind == "count":
             key = rng.choice(["account", "tags"])
             return {"key": key, "add": rng.randint(1, 2), "into": "seen"}
+        if kind == "dedupe":
+            return {"key": rng.choice(["account", "tags"])}
+        if kind == "clamp":
+            on, low = rng.choice(list(AMOUNTS)), rng.randint(-1, 2)
+            high = low + rng.randint(0, 3)
+            return {"on": on, "low": low * AMOUNTS[on], "high": high * AMOUNTS[on]}
         if kind == "split":
             return {"on": "tags", "by": " ", "most": rng.randint(1, 2)}
         return {}
@@ -98,7 +107,7 @@ class RandomJob:
 
     def make_requests(self):
         after = 0
-        changing = [name for name, node in self.nodes.items() if node["kind"] in FREE + ("count",)]
+        changing = [name for name, node in self.nodes.items() if node["kind"] in FREE + COUNTING]
         for _ in range(self.rng.randint(2, 4) if changing else 0):
             after = self.rng.randint(after, self.rows)
             names = self.rng.sample(changing, self.rng.randint(1, min(3, len(changing))))
@@ -118,7 +127,7 @@ class RandomJob:
         if kind in FREE and outs == 1:
             kind = self.rng.choice(FREE)
         function = self.function(kind)
-        if kind == "count":
+        if kind in COUNTING:
             function["key"] = node["key"]
         if kind == "split":
             function["most"] = min(function["most"], node["roof"])

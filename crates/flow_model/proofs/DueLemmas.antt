@@ -97,29 +97,44 @@ take_end (x ∷ xs) (suc i) = take_end xs i
 
 -- ---- a mask of places, place by place
 
-pub places_more : (mask more edges i edge : ℕ) (all : List ℕ) → slice_get all i ≡ Some edge → has edges edge ≡ true → Has more i → ((k : ℕ) → (k ≡ i → ⊥) → Has more k ↔ Has mask k)
-    → ((k : ℕ) → Has mask k ↔ IsTrue (is_on edges (slice_get (take i all) k))) → (k : ℕ) → Has more k ↔ IsTrue (is_on edges (slice_get (take (i + 1) all) k))
-places_more mask more edges i edge all at on set others before k = rw add-one (go (cases_eq k i))
+-- one more place, whose item passes the test
+pub places_more : {A : Type 0} (test : Option A → Bool) (mask more i : ℕ) (x : A) (all : List A)
+    → slice_get all i ≡ Some x → test (Some x) ≡ true → Has more i
+    → ((k : ℕ) → (k ≡ i → ⊥) → Has more k ↔ Has mask k)
+    → ((k : ℕ) → Has mask k ↔ IsTrue (test (slice_get (take i all) k)))
+    → (k : ℕ) → Has more k ↔ IsTrue (test (slice_get (take (i + 1) all) k))
+places_more test mask more i x all at on set others before k = rw add-one (go (cases_eq k i))
   where
-    go : (k ≡ i) ⊎ (k ≡ i → ⊥) → Has more k ↔ IsTrue (is_on edges (slice_get (take (suc i) all) k))
-    go (inl e) = subst (λ m. Has more m ↔ IsTrue (is_on edges (slice_get (take (suc i) all) m))) (sym e) ((λ h. ap (is_on edges) (take_suc_here all i edge at) ∙ on), (λ h. set))
+    go : (k ≡ i) ⊎ (k ≡ i → ⊥) → Has more k ↔ IsTrue (test (slice_get (take (suc i) all) k))
+    go (inl e) =
+        subst (λ m. Has more m ↔ IsTrue (test (slice_get (take (suc i) all) m))) (sym e)
+        ((λ h. ap test (take_suc_here all i x at) ∙ on), (λ h. set))
     go (inr n) =
         let a = others k n in
-        let b : Has mask k ↔ IsTrue (is_on edges (slice_get (take i all) k)) = before k in
+        let b : Has mask k ↔ IsTrue (test (slice_get (take i all) k)) = before k in
         rw (take_suc_other all i k n) ((λ h. b.0 (a.0 h)), (λ h. a.1 (b.1 h)))
 
-pub places_same : (mask edges i edge : ℕ) (all : List ℕ) → slice_get all i ≡ Some edge → has edges edge ≡ false
-    → ((k : ℕ) → Has mask k ↔ IsTrue (is_on edges (slice_get (take i all) k))) → (k : ℕ) → Has mask k ↔ IsTrue (is_on edges (slice_get (take (i + 1) all) k))
-places_same mask edges i edge all at off before k = rw add-one (go (cases_eq k i))
+-- one more place, whose item doesn't pass
+pub places_same : {A : Type 0} (test : Option A → Bool) (mask i : ℕ) (x : A) (all : List A)
+    → slice_get all i ≡ Some x → test None ≡ false → test (Some x) ≡ false
+    → ((k : ℕ) → Has mask k ↔ IsTrue (test (slice_get (take i all) k)))
+    → (k : ℕ) → Has mask k ↔ IsTrue (test (slice_get (take (i + 1) all) k))
+places_same test mask i x all at none off before k = rw add-one (go (cases_eq k i))
   where
-    go : (k ≡ i) ⊎ (k ≡ i → ⊥) → Has mask k ↔ IsTrue (is_on edges (slice_get (take (suc i) all) k))
+    go : (k ≡ i) ⊎ (k ≡ i → ⊥) → Has mask k ↔ IsTrue (test (slice_get (take (suc i) all) k))
     go (inl e) =
-        let b : Has mask i ↔ IsTrue (is_on edges (slice_get (take i all) i)) = before i in
-        let none : Has mask i → ⊥ = λ h. let t : is_on edges (slice_get (take i all) i) ≡ true = b.0 h in let n : is_on edges (slice_get (take i all) i) ≡ false = ap (is_on edges) (take_end all i) in cc in
-        subst (λ m. Has mask m ↔ IsTrue (is_on edges (slice_get (take (suc i) all) m))) (sym e)
-        ((λ h. absurd (none h)), (λ h. absurd (let t : is_on edges (slice_get (take (suc i) all) i) ≡ true = h in let n : is_on edges (slice_get (take (suc i) all) i) ≡ false = ap (is_on edges) (take_suc_here all i edge at) ∙ off in cc)))
+        let b : Has mask i ↔ IsTrue (test (slice_get (take i all) i)) = before i in
+        let unset : Has mask i → ⊥ = λ h.
+        let t : test (slice_get (take i all) i) ≡ true = b.0 h in
+        let n : test (slice_get (take i all) i) ≡ false = ap test (take_end all i) ∙ none in cc in
+        let out : IsTrue (test (slice_get (take (suc i) all) i)) → ⊥ = λ h.
+        let t : test (slice_get (take (suc i) all) i) ≡ true = h in
+        let n : test (slice_get (take (suc i) all) i) ≡ false =
+        ap test (take_suc_here all i x at) ∙ off in cc in
+        subst (λ m. Has mask m ↔ IsTrue (test (slice_get (take (suc i) all) m))) (sym e)
+        ((λ h. absurd (unset h)), (λ h. absurd (out h)))
     go (inr n) =
-        let b : Has mask k ↔ IsTrue (is_on edges (slice_get (take i all) k)) = before k in
+        let b : Has mask k ↔ IsTrue (test (slice_get (take i all) k)) = before k in
         rw (take_suc_other all i k n) b
 
 -- ---- the edges of the lanes in

@@ -100,6 +100,8 @@ fn misfit_of<'a>(job: &'a Table, members: &'a Table) -> Option<Misfit<'a>> {
             let into = key_misfit(columns, members, "into", Held::Numbers);
             first_of(first_of(key, add), into)
         }
+        Kind::Dedupe => key_misfit(columns, members, "key", Held::Texts),
+        Kind::Clamp => key_misfit(columns, members, "on", Held::Numbers),
         Kind::Split => key_misfit(columns, members, "on", Held::Texts),
         Kind::Sink => listed_misfit(columns, members, "columns"),
         Kind::Source | Kind::Replicate => None,

@@ -1,5 +1,6 @@
 // The form that a key asks for.
 use crate::members::items_of;
+use crate::owners::{Owner, OwnerIs};
 use job_file::Part;
 use jobs::{Followers, Kind, Test};
 use toml::{Table, Value as Toml};
@@ -9,13 +10,14 @@ const NAME_MAX: usize = 32;
 
 /// Whether what stands at a key of a node, an edge, a request or a change is of the form that the
 /// key asks for. A change has the version of its node at `from`, and an edge a name.
-pub(crate) fn has_form(part: Part, is_change: bool, value: &Toml) -> bool {
+pub(crate) fn has_form(part: Part, owner: Owner<'_>, value: &Toml) -> bool {
     match part {
         Part::Name => is_name(value),
         Part::Kind => is_kind(value),
-        Part::Workers | Part::Roof | Part::Most | Part::After => value.as_integer().is_some(),
+        Part::Workers | Part::Roof | Part::Most | Part::Low | Part::After => is_whole(value),
+        Part::High => is_high(owner.members, value),
         Part::Port => is_from_zero(value),
-        Part::From if is_change => is_from_zero(value),
+        Part::From if matches!(owner.is, OwnerIs::Change(..)) => is_from_zero(value),
         Part::From | Part::To | Part::Node => value.as_str().is_some(),
         Part::Key | Part::Into | Part::On | Part::Table => value.as_str().is_some(),
         Part::Other | Part::Add => is_literal(value),
@@ -45,6 +47,8 @@ pub(crate) fn is_needed(part: Part, members: &Table) -> bool {
         Part::On => is_of_kind(members, "on"),
         Part::By => is_of_kind(members, "by"),
         Part::Most => is_of_kind(members, "most"),
+        Part::Low => is_of_kind(members, "low"),
+        Part::High => is_of_kind(members, "high"),
         Part::Columns => is_of_kind(members, "columns"),
         Part::Tables | Part::Edge | Part::Request | Part::Unknown => false,
     }
@@ -54,8 +58,9 @@ pub(crate) fn is_needed(part: Part, members: &Table) -> bool {
 pub(crate) fn wanted(part: Part, is_change: bool) -> &'static str {
     match part {
         Part::Name => "a string of 1 to 32 characters of a-z, 0-9 and _",
-        Part::Kind => "source, filter, map, enrich, count, split, replicate or sink, as a string",
-        Part::Workers | Part::Roof | Part::Most | Part::After => "a whole number",
+        Part::Kind => KINDS,
+        Part::Workers | Part::Roof | Part::Most | Part::Low | Part::After => "a whole number",
+        Part::High => "a whole number, not below `low`",
         Part::Port => "a whole number, 0 or more",
         Part::From if is_change => "the version of the node, a whole number, 0 or more",
         Part::From | Part::To | Part::Node => "the name of a node, as a string",
@@ -75,6 +80,9 @@ pub(crate) fn wanted(part: Part, is_change: bool) -> &'static str {
         Part::Unknown => "",
     }
 }
+
+const KINDS: &str = "\
+source, filter, map, enrich, count, dedupe, clamp, split, replicate or sink, as a string";
 
 const CONDITIONS: &str = "\
 an array of arrays `[column, test, literal]`, as [[\"amount\", \">=\", 5000]]; tests are \
@@ -185,6 +193,22 @@ fn is_kind(value: &Toml) -> bool {
     match value.as_str() {
         Some(word) => Kind::named(word).is_some(),
         None => false,
+    }
+}
+
+fn is_whole(value: &Toml) -> bool {
+    value.as_integer().is_some()
+}
+
+// Whether a number is not below the one at `low`, if one stands there.
+fn is_high(members: &Table, value: &Toml) -> bool {
+    match (
+        value.as_integer(),
+        members.get("low").and_then(Toml::as_integer),
+    ) {
+        (Some(high), Some(low)) => low <= high,
+        (Some(_), None) => true,
+        (None, _) => false,
     }
 }
 

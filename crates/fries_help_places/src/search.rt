@@ -92,7 +92,7 @@ fn is_faulty(owner: Owner<'_>, part: Part, key: &str) -> bool {
         return false;
     }
     match owner.members.get(key) {
-        Some(value) => !has_form(part, matches!(owner.is, OwnerIs::Change(..)), value),
+        Some(value) => !has_form(part, owner, value),
         None => is_needed(part, owner.members),
     }
 }
@@ -116,7 +116,9 @@ fn is_part_of(is: OwnerIs, part: Part) -> bool {
         | Part::Add
         | Part::On
         | Part::By
-        | Part::Most => matches!(is, OwnerIs::Node(_) | OwnerIs::Change(..)),
+        | Part::Most
+        | Part::Low
+        | Part::High => matches!(is, OwnerIs::Node(_) | OwnerIs::Change(..)),
         Part::Tables | Part::Edge | Part::Request | Part::Unknown => false,
     }
 }

@@ -62,7 +62,8 @@ fn is_key(owner: Owner<'_>, key: &str) -> bool {
 /// All keys of nodes, edges, requests and changes, in the order in which they are told.
 const KEYS: &[&str] = &[
     "name", "node", "from", "to", "port", "after", "change", "kind", "carry", "workers", "roof",
-    "when", "steps", "key", "into", "table", "other", "add", "on", "by", "most", "columns",
+    "when", "steps", "key", "into", "table", "other", "add", "on", "low", "high", "by", "most",
+    "columns",
 ];
 
 fn push_keys(owner: Owner<'_>, out: &mut String) -> Result<(), AllocError> {

@@ -1,5 +1,5 @@
 -- The function that a table has, by its kind.
-use Rattle.std.specs.Prelude.{ℕ, ℤ, List, [], ◌∷◌, codes, Result, Ok, Err, if◌then◌else◌}
+use Rattle.std.specs.Prelude.{ℕ, ℤ, int_lt, List, [], ◌∷◌, codes, Result, Ok, Err, if◌then◌else◌}
 use Rattle.toml.specs.Data.{Data, Members}
 use Rattle.tuple_trace.specs.declared.value.Value.{Value}
 use Rattle.jobs.specs.declared.column.Column.{Column}
@@ -85,6 +85,25 @@ count_in columns ms =
     and_then (operand_at columns (codes "add") part.Add ms) (λ add.
     and_then (column_at columns (codes "into") part.Into ms) (count_with key add)))
 
+-- a dedupe: its key
+abbrev pub dedupe_in : List Column → Members → Result Func FormFault
+dedupe_in columns ms =
+    and_then (column_at columns (codes "key") part.Key ms) (λ key.
+    Ok (func.Dedupe (record { key = key })))
+
+-- the clamp with these parts: the higher number isn't below the lower one
+abbrev pub clamp_with : ℕ → ℤ → ℤ → Result Func FormFault
+clamp_with on low high =
+    if int_lt high low then Err (fault.Shape part.High)
+    else Ok (func.Clamp (record { on = on; low = low; high = high }))
+
+-- a clamp: its column, and the two numbers between which it is brought
+abbrev pub clamp_in : List Column → Members → Result Func FormFault
+clamp_in columns ms =
+    and_then (column_at columns (codes "on") part.On ms) (λ on.
+    and_then (whole_of_key (codes "low") part.Low ms) (λ low.
+    and_then (whole_of_key (codes "high") part.High ms) (clamp_with on low)))
+
 -- the split with these parts
 abbrev pub split_with : ℕ → ℕ → ℤ → Result Func FormFault
 split_with on by most = Ok (func.Split (record { on = on; by = by; most = nearest most }))
@@ -113,6 +132,8 @@ func_by columns tables kind.Filter ms = filter_in columns ms
 func_by columns tables kind.Map ms = map_in columns ms
 func_by columns tables kind.Enrich ms = enrich_in columns tables ms
 func_by columns tables kind.Count ms = count_in columns ms
+func_by columns tables kind.Dedupe ms = dedupe_in columns ms
+func_by columns tables kind.Clamp ms = clamp_in columns ms
 func_by columns tables kind.Split ms = split_in columns ms
 func_by columns tables kind.Replicate ms = Ok func.Replicate
 func_by columns tables kind.Sink ms = sink_in columns ms

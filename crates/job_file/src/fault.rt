@@ -25,6 +25,8 @@ pub enum Part {
     On,
     By,
     Most,
+    Low,
+    High,
     Roof,
     From,
     To,

@@ -37,6 +37,8 @@ fn part_word(part: Part) -> &'static str
         Part::On => "on",
         Part::By => "by",
         Part::Most => "most",
+        Part::Low => "low",
+        Part::High => "high",
         Part::Roof => "roof",
         Part::From => "from",
         Part::To => "to",

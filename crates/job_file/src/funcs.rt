@@ -1,9 +1,9 @@
 ghost use Rattle.std.specs.Prelude.{◌≡◌, ◌≢◌, Ok, Err, IfOk, IfErr, map, codes};
 ghost use Rattle.toml.specs.View.{items_view, table_view, view};
 ghost use Rattle.job_file.specs.Document.{all_of};
-ghost use Rattle.job_file.specs.Funcs.{byte_at, column_at, count_in, enrich_in, filter_in, func_by};
-ghost use Rattle.job_file.specs.Funcs.{func_in, listed_of, literal_at, map_in, operand_at, sink_in};
-ghost use Rattle.job_file.specs.Funcs.{split_in, table_at};
+ghost use Rattle.job_file.specs.Funcs.{byte_at, clamp_in, column_at, count_in, dedupe_in, enrich_in};
+ghost use Rattle.job_file.specs.Funcs.{filter_in, func_by, func_in, listed_of, literal_at, map_in};
+ghost use Rattle.job_file.specs.Funcs.{operand_at, sink_in, split_in, table_at};
 
 use crate::conds::read_conds;
 use crate::document::{has_only, items_at, member, text, text_at, whole_at};
@@ -12,7 +12,9 @@ use crate::literals::{read_literal, read_operand};
 use crate::names::{column_named, table_named};
 use crate::numbers::nearest;
 use crate::steps::read_steps;
-use jobs::{Column, Columns, CountBy, Func, Kind, Lookup, Operand, SplitBy, Table};
+use jobs::{
+    ClampBy, Column, Columns, CountBy, DedupeBy, Func, Kind, Lookup, Operand, SplitBy, Table,
+};
 use std::alloc::Global;
 use toml::{Table as Members, Value as Toml};
 use tuple_trace::Value;
@@ -57,6 +59,8 @@ fn func_of(
         Kind::Map => read_map(alloc, columns, members),
         Kind::Enrich => read_enrich(alloc, columns, tables, members),
         Kind::Count => read_count(columns, members),
+        Kind::Dedupe => read_dedupe(columns, members),
+        Kind::Clamp => read_clamp(columns, members),
         Kind::Split => read_split(columns, members),
         Kind::Replicate => Ok(Func::Replicate),
         Kind::Sink => read_sink(alloc, columns, members),
@@ -113,6 +117,29 @@ fn read_count(columns: &[Column], members: &Members) -> Result<Func, FormFault>
     let add = read_operand_at(columns, members, "add", Part::Add)?;
     let into = read_column_at(columns, members, "into", Part::Into)?;
     Ok(Func::Count(CountBy { key, add, into }))
+}
+
+fn read_dedupe(columns: &[Column], members: &Members) -> Result<Func, FormFault>
+    ensures ok { IfOk result (λ func. dedupe_in columns.now (table_view members.now) ≡ Ok func) }
+    ensures fault { IfErr result (λ fault. dedupe_in columns.now (table_view members.now)
+        ≡ Err fault) }
+{
+    let key = read_column_at(columns, members, "key", Part::Key)?;
+    Ok(Func::Dedupe(DedupeBy { key }))
+}
+
+fn read_clamp(columns: &[Column], members: &Members) -> Result<Func, FormFault>
+    ensures ok { IfOk result (λ func. clamp_in columns.now (table_view members.now) ≡ Ok func) }
+    ensures fault { IfErr result (λ fault. clamp_in columns.now (table_view members.now)
+        ≡ Err fault) }
+{
+    let on = read_column_at(columns, members, "on", Part::On)?;
+    let low = whole_at(members, "low", Part::Low)?;
+    let high = whole_at(members, "high", Part::High)?;
+    if high < low {
+        return Err(FormFault::Shape(Part::High));
+    }
+    Ok(Func::Clamp(ClampBy { on, low, high }))
 }
 
 fn read_split(columns: &[Column], members: &Members) -> Result<Func, FormFault>

@@ -47,6 +47,8 @@ row_is kind.Filter = record { few_workers = lit≤ tt; few_outs = lit≤ tt; of_
 row_is kind.Map = record { few_workers = lit≤ tt; few_outs = lit≤ tt; of_source = λ h. absurd (cc); of_free = λ h. free_row refl refl refl refl refl }
 row_is kind.Enrich = record { few_workers = lit≤ tt; few_outs = lit≤ tt; of_source = λ h. absurd (cc); of_free = λ h. free_row refl refl refl refl refl }
 row_is kind.Count = record { few_workers = lit≤ tt; few_outs = lit≤ tt; of_source = λ h. absurd (cc); of_free = λ h. absurd (cc) }
+row_is kind.Dedupe = record { few_workers = lit≤ tt; few_outs = lit≤ tt; of_source = λ h. absurd (cc); of_free = λ h. absurd (cc) }
+row_is kind.Clamp = record { few_workers = lit≤ tt; few_outs = lit≤ tt; of_source = λ h. absurd (cc); of_free = λ h. free_row refl refl refl refl refl }
 row_is kind.Split = record { few_workers = lit≤ tt; few_outs = lit≤ tt; of_source = λ h. absurd (cc); of_free = λ h. free_row refl refl refl refl refl }
 row_is kind.Replicate = record { few_workers = lit≤ tt; few_outs = lit≤ tt; of_source = λ h. absurd (cc); of_free = λ h. absurd (cc) }
 row_is kind.Sink = record { few_workers = lit≤ tt; few_outs = lit≤ tt; of_source = λ h. absurd (cc); of_free = λ h. absurd (cc) }

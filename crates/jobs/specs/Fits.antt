@@ -63,6 +63,8 @@ fits_columns columns tables (func.Enrich lookup) =
 fits_columns columns tables (func.Count count) =
     is_text (kind_at columns count.key) && operand_fits columns count.add
     && is_amount (kind_at columns count.into)
+fits_columns columns tables (func.Dedupe dedupe) = is_text (kind_at columns dedupe.key)
+fits_columns columns tables (func.Clamp clamp) = is_amount (kind_at columns clamp.on)
 fits_columns columns tables (func.Split split) = is_text (kind_at columns split.on)
 fits_columns columns tables func.Replicate = true
 fits_columns columns tables (func.Sink listed) = list_all (has_column columns) listed

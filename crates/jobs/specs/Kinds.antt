@@ -82,6 +82,28 @@ row_of kind.Count = record {
   counts = true;
   followers = followers.SameKind;
 }
+row_of kind.Dedupe = record {
+  name = codes "dedupe";
+  keys = codes "key" ∷ [];
+  role = role.Operator;
+  shape = shape.AtMostOne;
+  least_outs = 1;
+  most_outs = 1;
+  most_workers = MAX_NODE_WORKERS;
+  counts = true;
+  followers = followers.SameKind;
+}
+row_of kind.Clamp = record {
+  name = codes "clamp";
+  keys = codes "on" ∷ codes "low" ∷ codes "high" ∷ [];
+  role = role.Operator;
+  shape = shape.AtMostOne;
+  least_outs = 1;
+  most_outs = 1;
+  most_workers = MAX_NODE_WORKERS;
+  counts = false;
+  followers = followers.FreeKinds;
+}
 row_of kind.Split = record {
   name = codes "split";
   keys = codes "on" ∷ codes "by" ∷ codes "most" ∷ [];
@@ -123,6 +145,8 @@ kind_of (func.Filter conds) = kind.Filter
 kind_of (func.Map steps) = kind.Map
 kind_of (func.Enrich lookup) = kind.Enrich
 kind_of (func.Count count) = kind.Count
+kind_of (func.Dedupe dedupe) = kind.Dedupe
+kind_of (func.Clamp clamp) = kind.Clamp
 kind_of (func.Split split) = kind.Split
 kind_of func.Replicate = kind.Replicate
 kind_of (func.Sink listed) = kind.Sink
@@ -134,6 +158,8 @@ is_kind kind.Filter kind.Filter = true
 is_kind kind.Map kind.Map = true
 is_kind kind.Enrich kind.Enrich = true
 is_kind kind.Count kind.Count = true
+is_kind kind.Dedupe kind.Dedupe = true
+is_kind kind.Clamp kind.Clamp = true
 is_kind kind.Split kind.Split = true
 is_kind kind.Replicate kind.Replicate = true
 is_kind kind.Sink kind.Sink = true
@@ -146,6 +172,7 @@ row_at func = row_of (kind_of func)
 -- the column whose texts are the keys that a function counts by, if it counts
 abbrev pub key_of : Func → Option ℕ
 key_of (func.Count count) = Some count.key
+key_of (func.Dedupe dedupe) = Some dedupe.key
 key_of _ = None
 
 -- rows enter at its nodes
@@ -197,7 +224,7 @@ are_free followers.FreeKinds = true
 abbrev pub all_kinds : List Kind
 all_kinds =
     kind.Source ∷ kind.Filter ∷ kind.Map ∷ kind.Enrich
-    ∷ kind.Count ∷ kind.Split ∷ kind.Replicate ∷ kind.Sink ∷ []
+    ∷ kind.Count ∷ kind.Dedupe ∷ kind.Clamp ∷ kind.Split ∷ kind.Replicate ∷ kind.Sink ∷ []
 
 -- the kind has the name
 abbrev pub has_name : List ℕ → Kind → Bool

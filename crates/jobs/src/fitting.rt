@@ -58,6 +58,8 @@ pub fn fits_columns(columns: &[Column], tables: &[Table], func: &Func) -> bool
                 && operand_fits(columns, count.add)
                 && is_amount(kind_at(columns, count.into))
         }
+        Func::Dedupe(dedupe) => is_text(kind_at(columns, dedupe.key)),
+        Func::Clamp(clamp) => is_amount(kind_at(columns, clamp.on)),
         Func::Split(split) => is_text(kind_at(columns, split.on)),
         Func::Sink(listed) => has_columns(columns, listed.as_slice()),
     }

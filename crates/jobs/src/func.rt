@@ -77,6 +77,20 @@ pub struct SplitBy {
     pub most: u32,
 }
 
+/// A filter of repeats: only the first tuple of each text in `key` goes on.
+#[derive(Clone, Copy, Debug, PartialEq, Eq)]
+pub struct DedupeBy {
+    pub key: u32,
+}
+
+/// A clamp: the column `on` becomes `low` where it holds less, and `high` where it holds more.
+#[derive(Clone, Copy, Debug, PartialEq, Eq)]
+pub struct ClampBy {
+    pub on: u32,
+    pub low: i64,
+    pub high: i64,
+}
+
 /// The conditions of a filter, all of which are to hold.
 pub type Conds = Items<Cond>;
 
@@ -97,6 +111,10 @@ pub enum Func {
     Enrich(Lookup),
     /// Counts by a key.
     Count(CountBy),
+    /// Passes the first tuple of a key, and ends the others.
+    Dedupe(DedupeBy),
+    /// Brings a column of numbers between two numbers.
+    Clamp(ClampBy),
     /// Makes a tuple of each piece of a text.
     Split(SplitBy),
     /// Sends a copy along each of its edges.

@@ -13,6 +13,8 @@ pub enum Kind {
     Map,
     Enrich,
     Count,
+    Dedupe,
+    Clamp,
     Split,
     Replicate,
     Sink,
@@ -144,6 +146,28 @@ impl Kind {
                 counts: true,
                 followers: Followers::SameKind,
             },
+            Kind::Dedupe => KindRow {
+                name: "dedupe",
+                keys: &["key"],
+                role: Role::Operator,
+                shape: Shape::AtMostOne,
+                least_outs: 1,
+                most_outs: 1,
+                most_workers: MAX_NODE_WORKERS,
+                counts: true,
+                followers: Followers::SameKind,
+            },
+            Kind::Clamp => KindRow {
+                name: "clamp",
+                keys: &["on", "low", "high"],
+                role: Role::Operator,
+                shape: Shape::AtMostOne,
+                least_outs: 1,
+                most_outs: 1,
+                most_workers: MAX_NODE_WORKERS,
+                counts: false,
+                followers: Followers::FreeKinds,
+            },
             Kind::Split => KindRow {
                 name: "split",
                 keys: &["on", "by", "most"],
@@ -190,6 +214,8 @@ impl Kind {
             Kind::Map,
             Kind::Enrich,
             Kind::Count,
+            Kind::Dedupe,
+            Kind::Clamp,
             Kind::Split,
             Kind::Replicate,
             Kind::Sink,
@@ -221,6 +247,8 @@ impl Func {
             Func::Map(_) => Kind::Map,
             Func::Enrich(_) => Kind::Enrich,
             Func::Count(_) => Kind::Count,
+            Func::Dedupe(_) => Kind::Dedupe,
+            Func::Clamp(_) => Kind::Clamp,
             Func::Split(_) => Kind::Split,
             Func::Replicate => Kind::Replicate,
             Func::Sink(_) => Kind::Sink,
@@ -234,6 +262,7 @@ pub fn key_of(func: &Func) -> Option<u32>
 {
     match func {
         Func::Count(count) => Some(count.key),
+        Func::Dedupe(dedupe) => Some(dedupe.key),
         _ => None,
     }
 }

@@ -35,8 +35,8 @@ pub use column::{Column, ColumnDefs, ColumnKind, Columns};
 pub use fault::{LawFault, Named, Which};
 pub use fitting::{holds, kind_at};
 pub use func::{
-    Cond, Conds, CountBy, Func, Lookup, NOWHERE, NodeDef, NodeDefs, Op, Operand, SplitBy, Step,
-    Steps, Test,
+    ClampBy, Cond, Conds, CountBy, DedupeBy, Func, Lookup, NOWHERE, NodeDef, NodeDefs, Op, Operand,
+    SplitBy, Step, Steps, Test,
 };
 pub use job::Job;
 pub use kind::{Followers, Kind, KindRow, Role, Shape, key_of};

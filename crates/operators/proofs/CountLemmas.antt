@@ -22,17 +22,20 @@ pub record SetsOne (job : JobView) (f : Func) (counts : Counts) (tuple : Tuple) 
 -- every function keeps the counts or sets one
 pub counts_cases : (job : JobView) (f : Func) (counts : Counts) (tuple : Tuple) → (counts_after job f counts tuple ≡ counts) ⊎ SetsOne job f counts tuple
 counts_cases job (func.Count count) counts tuple = inr (record { key = count.key; key_is = refl; sum = _; after = refl })
+counts_cases job (func.Dedupe dedupe) counts tuple = inr (record { key = dedupe.key; key_is = refl; sum = _; after = refl })
 counts_cases job _ counts tuple = inl refl
 
 -- one that doesn't count keeps them
 pub counts_kept : (job : JobView) (f : Func) (counts : Counts) (tuple : Tuple) → is_count f ≡ false → counts_after job f counts tuple ≡ counts
 counts_kept job (func.Count count) counts tuple e = absurd (cc)
+counts_kept job (func.Dedupe dedupe) counts tuple e = absurd (cc)
 counts_kept job _ counts tuple e = refl
 
 -- and puts out the same whatever they are
 pub outputs_same : (job : JobView) (visit : Visit) (f : Func) (counts other : Counts) (tuple : Tuple) → is_count f ≡ false
     → outputs job visit f counts tuple ≡ outputs job visit f other tuple
 outputs_same job visit (func.Count count) counts other tuple e = absurd (cc)
+outputs_same job visit (func.Dedupe dedupe) counts other tuple e = absurd (cc)
 outputs_same job visit _ counts other tuple e = refl
 
 -- a sink puts out nothing

@@ -1,6 +1,6 @@
 -- What is true of all outputs.
 use Rattle.std.proofs.Common.{◌≡◌, ◌∙◌, ℕ, ◌+◌, ◌<◌, zero, suc, ap, refl, subst, List, [], ◌∷◌, ◌++◌, length, map, take, filter, Bool, true, false, Some, None, inl, inr, arith}
-use Rattle.std.specs.Prelude.{if◌then◌else◌, slice_get}
+use Rattle.std.specs.Prelude.{if◌then◌else◌, int_le, pos, slice_get}
 use Rattle.std.specs.List.{enumerate_from, list_all}
 use Rattle.std.specs.Option.{option_map}
 use Rattle.std.proofs.lemmas.List.{length-take}
@@ -11,6 +11,7 @@ use Rattle.tuple_trace.specs.declared.tuple.Tuple.{Tuple}
 use Rattle.tuple_trace.specs.declared.tuple.Visit.{Visit}
 use Rattle.keyed_state.specs.Counts.{Counts}
 use Rattle.jobs.specs.declared.func.Cond.{Cond}
+use Rattle.jobs.specs.declared.func.DedupeBy.{DedupeBy}
 use Rattle.jobs.specs.declared.func.Func.{Func}
 use Rattle.jobs.specs.declared.func.Func.TheVariants as func
 use Rattle.jobs.specs.Places.{Each}
@@ -20,7 +21,7 @@ use Rattle.operators.specs.declared.output.Output.{Output}
 use Rattle.operators.specs.Conditions.{meets}
 use Rattle.operators.specs.Fields.{text_at}
 use Rattle.operators.specs.Laws.{IsMadeOf, bare, bare_tuple, bare_visit}
-use Rattle.operators.specs.Meaning.{born, outputs, piece_sent, sent}
+use Rattle.operators.specs.Meaning.{born, met_after, outputs, piece_sent, sent}
 use Rattle.operators.specs.Pieces.{pieces}
 
 each_one : (P : ℕ → Output → Type 0) (x : Output) → P 0 x → (k : ℕ) (o : Output) → slice_get (x ∷ []) k ≡ Some o → P k o
@@ -52,6 +53,12 @@ filter_made edges visit conds tuple false true has =
     each_one (IsMadeOf edges visit (func.Filter conds) tuple) (sent visit 1 tuple) (record { row = refl; issued = refl; trace = refl; birth = refl; port = (refl, inr (refl, refl, has)) })
 filter_made edges visit conds tuple false false has = λ k o is. cc
 
+-- a dedupe's, by whether the tuple is the first of its key
+dedupe_made : (edges : List Edge) (visit : Visit) (dedupe : DedupeBy) (tuple : Tuple) (first : Bool) (k : ℕ) (o : Output) → slice_get (if first then sent visit 0 tuple ∷ [] else []) k ≡ Some o → IsMadeOf edges visit (func.Dedupe dedupe) tuple k o
+dedupe_made edges visit dedupe tuple true =
+    each_one (IsMadeOf edges visit (func.Dedupe dedupe) tuple) (sent visit 0 tuple) (record { row = refl; issued = refl; trace = refl; birth = refl; port = (refl, inl refl) })
+dedupe_made edges visit dedupe tuple false = λ k o is. cc
+
 pub outputs_made : (job : JobView) (visit : Visit) (f : Func) (counts : Counts) (tuple : Tuple) → Each (IsMadeOf job.edges visit f tuple) (outputs job visit f counts tuple)
 outputs_made job visit func.Source counts tuple = λ k o is. cc
 outputs_made job visit (func.Filter conds) counts tuple = filter_made job.edges visit conds tuple (list_all (meets job.columns tuple.fields) conds) (has_port job.edges visit.node 1) refl
@@ -61,6 +68,9 @@ outputs_made job visit (func.Enrich lookup) counts tuple =
     each_one (IsMadeOf job.edges visit (func.Enrich lookup) tuple) _ (record { row = refl; issued = refl; trace = refl; birth = refl; port = (refl, inl refl) })
 outputs_made job visit (func.Count count) counts tuple =
     each_one (IsMadeOf job.edges visit (func.Count count) tuple) _ (record { row = refl; issued = refl; trace = refl; birth = refl; port = (refl, inl refl) })
+outputs_made job visit (func.Dedupe dedupe) counts tuple = dedupe_made job.edges visit dedupe tuple (int_le (met_after job.columns dedupe counts tuple) (pos 1))
+outputs_made job visit (func.Clamp clamp) counts tuple =
+    each_one (IsMadeOf job.edges visit (func.Clamp clamp) tuple) _ (record { row = refl; issued = refl; trace = refl; birth = refl; port = (refl, inl refl) })
 outputs_made job visit (func.Split split) counts tuple =
     let all = pieces split.by (text_at job.columns tuple.fields split.on) in
     each_map (IsMadeOf job.edges visit (func.Split split) tuple) (piece_sent job.columns visit split.on tuple) (enumerate_from 0 (take split.most all)) (λ k piece is.
@@ -93,12 +103,18 @@ filter_bare visit tuple true q = refl
 filter_bare visit tuple false true = refl
 filter_bare visit tuple false false = refl
 
+dedupe_bare : (visit : Visit) (tuple : Tuple) (first : Bool) → map bare (if first then sent visit 0 tuple ∷ [] else []) ≡ map bare (if first then sent (bare_visit visit) 0 (bare_tuple tuple) ∷ [] else [])
+dedupe_bare visit tuple true = refl
+dedupe_bare visit tuple false = refl
+
 pub outputs_bare : (job : JobView) (visit : Visit) (f : Func) (counts : Counts) (tuple : Tuple) → map bare (outputs job visit f counts tuple) ≡ map bare (outputs job (bare_visit visit) f counts (bare_tuple tuple))
 outputs_bare job visit func.Source counts tuple = refl
 outputs_bare job visit (func.Filter conds) counts tuple = filter_bare visit tuple (list_all (meets job.columns tuple.fields) conds) (has_port job.edges visit.node 1)
 outputs_bare job visit (func.Map steps) counts tuple = refl
 outputs_bare job visit (func.Enrich lookup) counts tuple = refl
 outputs_bare job visit (func.Count count) counts tuple = refl
+outputs_bare job visit (func.Dedupe dedupe) counts tuple = dedupe_bare visit tuple (int_le (met_after job.columns dedupe counts tuple) (pos 1))
+outputs_bare job visit (func.Clamp clamp) counts tuple = refl
 outputs_bare job visit (func.Split split) counts tuple = same_bare _ _ (enumerate_from 0 (take split.most (pieces split.by (text_at job.columns tuple.fields split.on)))) (λ a. refl)
 outputs_bare job visit func.Replicate counts tuple = same_bare _ _ (filter (leaves visit.node) job.edges) (λ a. refl)
 outputs_bare job visit (func.Sink listed) counts tuple = refl

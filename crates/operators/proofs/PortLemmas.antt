@@ -1,6 +1,6 @@
 -- The ports of a node, in place of the edges that leave it.
 use Rattle.std.proofs.Common.{◌≡◌, ◌∙◌, ℕ, ◌≤◌, ◌==◌, ◌&&◌, ◌||◌, refl, List, [], ◌∷◌, length, map, filter, take, cond, Bool, true, false, arith}
-use Rattle.std.specs.Prelude.{if◌then◌else◌}
+use Rattle.std.specs.Prelude.{if◌then◌else◌, int_le, pos}
 use Rattle.std.specs.List.{enumerate_from, list_all, list_any}
 use Rattle.std.proofs.lemmas.List.{length-map, length-take}
 use Rattle.std.proofs.lemmas.List.FromFn.{length-enumerate_from}
@@ -17,7 +17,7 @@ use Rattle.jobs.specs.Ports.{has_port, leaves}
 use Rattle.jobs.specs.JobView.{JobView}
 use Rattle.operators.specs.Conditions.{meets}
 use Rattle.operators.specs.Fields.{text_at}
-use Rattle.operators.specs.Meaning.{born, filtered, outputs, piece_sent, replicated, sent}
+use Rattle.operators.specs.Meaning.{born, filtered, met_after, outputs, piece_sent, replicated, sent}
 use Rattle.operators.specs.Pieces.{pieces}
 use Rattle.operators.specs.Ports.{most_outputs, out_ports}
 
@@ -53,12 +53,18 @@ filter_few visit tuple true q = omega arith
 filter_few visit tuple false true = omega arith
 filter_few visit tuple false false = omega arith
 
+dedupe_few : (visit : Visit) (tuple : Tuple) (first : Bool) → length (if first then sent visit 0 tuple ∷ [] else []) ≤ 1
+dedupe_few visit tuple true = omega arith
+dedupe_few visit tuple false = omega arith
+
 pub outputs_few : (job : JobView) (visit : Visit) (f : Func) (counts : Counts) (tuple : Tuple) → length (outputs job visit f counts tuple) ≤ most_outputs f (out_ports job.edges visit.node)
 outputs_few job visit func.Source counts tuple = omega arith
 outputs_few job visit (func.Filter conds) counts tuple = filter_few visit tuple (list_all (meets job.columns tuple.fields) conds) (has_port job.edges visit.node 1)
 outputs_few job visit (func.Map steps) counts tuple = omega arith
 outputs_few job visit (func.Enrich lookup) counts tuple = omega arith
 outputs_few job visit (func.Count count) counts tuple = omega arith
+outputs_few job visit (func.Dedupe dedupe) counts tuple = dedupe_few visit tuple (int_le (met_after job.columns dedupe counts tuple) (pos 1))
+outputs_few job visit (func.Clamp clamp) counts tuple = omega arith
 outputs_few job visit (func.Split split) counts tuple =
     let all = pieces split.by (text_at job.columns tuple.fields split.on) in
     let parts = take split.most all in

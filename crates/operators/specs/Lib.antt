@@ -8,6 +8,8 @@ pub mod Map
 pub mod Changing
 pub mod Enrich
 pub mod Count
+pub mod Dedupe
+pub mod Clamp
 pub mod Split
 pub mod Replicate
 pub mod Meaning

@@ -10,7 +10,9 @@ use Rattle.jobs.specs.JobView.{JobView}
 use Rattle.operators.specs.declared.output.Output.{Output}
 use Rattle.operators.specs.Fields.{text_at}
 use Rattle.operators.specs.Map.{mapped}
+pub use Rattle.operators.specs.Clamp.{clamped, clamped_number}
 pub use Rattle.operators.specs.Count.{count_after, counted}
+pub use Rattle.operators.specs.Dedupe.{deduped, met_after}
 pub use Rattle.operators.specs.Enrich.{enriched, looked_up}
 pub use Rattle.operators.specs.Filter.{filtered}
 pub use Rattle.operators.specs.Replicate.{replicated}
@@ -26,11 +28,13 @@ outputs job visit (func.Map steps) counts tuple = mapped job.columns visit steps
 outputs job visit (func.Enrich lookup) counts tuple =
     enriched job.columns job.tables visit lookup tuple
 outputs job visit (func.Count count) counts tuple = counted job.columns visit count counts tuple
+outputs job visit (func.Dedupe dedupe) counts tuple = deduped job.columns visit dedupe counts tuple
+outputs job visit (func.Clamp clamp) counts tuple = clamped job.columns visit clamp tuple
 outputs job visit (func.Split split) counts tuple = split_up job.columns visit split tuple
 outputs job visit func.Replicate counts tuple = replicated job.edges visit tuple
 outputs job visit (func.Sink listed) counts tuple = []
 
--- the counts of the node afterwards: a count alone changes them
+-- the counts of the node afterwards: kinds with a key alone change them
 abbrev pub counts_after : JobView → Func → Counts → Tuple → Counts
 counts_after job func.Source counts tuple = counts
 counts_after job (func.Filter conds) counts tuple = counts
@@ -39,6 +43,10 @@ counts_after job (func.Enrich lookup) counts tuple = counts
 counts_after job (func.Count count) counts tuple =
     finite.insert counts (text_at job.columns tuple.fields count.key)
     (count_after job.columns count counts tuple)
+counts_after job (func.Dedupe dedupe) counts tuple =
+    finite.insert counts (text_at job.columns tuple.fields dedupe.key)
+    (met_after job.columns dedupe counts tuple)
+counts_after job (func.Clamp clamp) counts tuple = counts
 counts_after job (func.Split split) counts tuple = counts
 counts_after job func.Replicate counts tuple = counts
 counts_after job (func.Sink listed) counts tuple = counts

@@ -4,7 +4,9 @@ ghost use Rattle.operators.specs.Meaning.{step};
 ghost use Rattle.operators.specs.Ports.{out_ports};
 
 use crate::Outs;
+use crate::clamp::clamp;
 use crate::count::count;
+use crate::dedupe::dedupe;
 use crate::enrich::enrich;
 use crate::filter::filter;
 use crate::map::map;
@@ -57,6 +59,8 @@ impl Visited<'_> {
             Func::Map(steps) => map(alloc, columns, visit, steps.as_slice(), tuple, out),
             Func::Enrich(lookup) => enrich(alloc, job, visit, lookup, tuple, out),
             Func::Count(by) => count(columns, visit, by, state, tuple, out),
+            Func::Dedupe(by) => dedupe(columns, visit, by, state, tuple, out),
+            Func::Clamp(by) => clamp(columns, visit, by, tuple, out),
             Func::Split(by) => split(alloc, columns, visit, by, tuple, out),
             Func::Replicate => replicate(alloc, ports, visit, tuple, out),
         }

@@ -16,8 +16,10 @@
 #![tactic(auto)]
 
 mod arithmetic;
+mod clamp;
 mod conditions;
 mod count;
+mod dedupe;
 mod effect;
 mod enrich;
 mod fields;
@@ -33,9 +35,10 @@ mod split;
 
 pub use effect::Visited;
 pub use jobs::{
-    Column, ColumnDefs, ColumnKind, Columns, Cond, Conds, CountBy, Func, Job, LawFault, Lookup,
-    NOWHERE, Named, NodeDef, NodeDefs, Op, Operand, SplitBy, Step, Steps, Table, Tables, Test,
-    Which, fits, holds, is_replicate, is_source, is_split, kind_at, size_fault, weight,
+    ClampBy, Column, ColumnDefs, ColumnKind, Columns, Cond, Conds, CountBy, DedupeBy, Func, Job,
+    LawFault, Lookup, NOWHERE, Named, NodeDef, NodeDefs, Op, Operand, SplitBy, Step, Steps, Table,
+    Tables, Test, Which, fits, holds, is_replicate, is_source, is_split, kind_at, size_fault,
+    weight,
 };
 pub use lanes::lane_of;
 pub use laws::{

@@ -54,7 +54,7 @@ fn send_pieces(
             break;
         };
         let (piece, rest) = cut(text, split.by);
-        let tuple = piece_of(alloc, columns, visit, split.on, number, piece, tuple)?;
+        let tuple = piece_of(alloc, columns, visit, split.on, (number, piece), tuple)?;
         out.push(Output { port: 0, tuple })?;
         left = rest;
     }
@@ -67,13 +67,14 @@ fn piece_of(
     columns: &[Column],
     visit: Visit,
     on: u32,
-    number: u32,
-    piece: &[u8],
+    numbered: (u32, &[u8]),
     tuple: &Tuple,
 ) -> Result<Tuple, NoMemory>
-    ensures { let fields = written_of columns.now tuple.now.fields on (Text piece.now) in
-        IfOk result (λ made. made ≡ visited visit (born_of number (with_fields fields tuple.now))) }
+    ensures { let fields = written_of columns.now tuple.now.fields on (Text numbered.entry.1.now) in
+        IfOk result (λ made. made ≡ visited visit
+        (born_of numbered.entry.0 (with_fields fields tuple.now))) }
 {
+    let (number, piece) = numbered;
     let value = Value::Text(Txt::from_slice(alloc, piece)?);
     let fields = written_at(alloc, columns, &tuple.fields, on, value)?;
     let birth = tuple.birth.with(alloc, number)?;

@@ -1,6 +1,6 @@
 -- Texts stay short: what a function makes of short texts.
 use Rattle.std.proofs.Common.{◌≡◌, ◌∙◌, ◌<◌, ◌≤◌, ◌+◌, ◌++◌, ◌==◌, ◌&&◌, ◌⊎◌, ℕ, ℤ, zero, suc, List, [], ◌∷◌, inl, inr, refl, sym, subst, ap, arith, true, false, Bool, cond, length, filter, nat_le, slice_set, take, All, Some, None, Option, slice_get}
-use Rattle.std.specs.Prelude.{is_some, unwrap_or}
+use Rattle.std.specs.Prelude.{int_le, is_some, pos, unwrap_or}
 use Rattle.std.specs.Cmp.Lexicographic.{slice_cmp}
 use Rattle.std.specs.FinMap.{entries, get, get-entries}
 use Rattle.std.specs.FinMap.Entries.{find}
@@ -25,7 +25,7 @@ use Rattle.keyed_state.specs.Counts.{Counts}
 use Rattle.operators.specs.Arithmetic.{after_step, after_steps}
 use Rattle.operators.specs.Fields.{field_at, text_at, written_at}
 use Rattle.operators.specs.Conditions.{meets}
-use Rattle.operators.specs.Meaning.{born, count_after, looked_up, outputs, piece_sent}
+use Rattle.operators.specs.Meaning.{born, clamped_number, count_after, looked_up, met_after, outputs, piece_sent}
 use Rattle.operators.specs.Meaning.{sent as sent_out}
 use Rattle.operators.specs.declared.output.Output.{Output}
 use Rattle.operators.specs.Pieces.{pieces, pieces_from}
@@ -183,6 +183,16 @@ short_outputs job visit (func.Count count) counts tuple limits e h o (inl p) =
     subst (λ (o : Output). AreShort o.tuple.fields) (sym p)
     (short_written job.columns tuple.fields count.into (value.Num (count_after job.columns count counts tuple)) h (short_number (count_after job.columns count counts tuple)))
 short_outputs job visit (func.Count count) counts tuple limits e h o (inr i) = absurd i
+short_outputs job visit (func.Dedupe dedupe) counts tuple limits e h o i = go (int_le (met_after job.columns dedupe counts tuple) (pos 1)) i
+  where
+    go : (b : Bool) → IsIn o (cond b (sent_out visit 0 tuple ∷ []) []) → AreShort o.tuple.fields
+    go true (inl p) = subst (λ (o : Output). AreShort o.tuple.fields) (sym p) h
+    go true (inr n) = absurd n
+    go false i = absurd i
+short_outputs job visit (func.Clamp clamp) counts tuple limits e h o (inl p) =
+    subst (λ (o : Output). AreShort o.tuple.fields) (sym p)
+    (short_written job.columns tuple.fields clamp.on (value.Num (clamped_number job.columns clamp tuple)) h (short_number (clamped_number job.columns clamp tuple)))
+short_outputs job visit (func.Clamp clamp) counts tuple limits e h o (inr i) = absurd i
 short_outputs job visit (func.Split split) counts tuple limits e h o i =
     let parts : List (List ℕ) = take split.most (pieces split.by (text_at job.columns tuple.fields split.on)) in
     let r = in_map (piece_sent job.columns visit split.on tuple) o (enumerate_from 0 parts) i in

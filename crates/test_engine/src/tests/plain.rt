@@ -1,10 +1,11 @@
 //! Runs of the engine beside those of the plain executor.
 use crate::tests::seen::{Alerts, DONE, Wanted};
-use crate::tests::{Input, run};
+use crate::tests::{Input, check_text, run};
 use flow_model::RunRecord;
 use jobs::worker_count;
 use sink_journal::alerts_text;
 use std::alloc::Global;
+use std::process::Abort;
 use std::sync::Wait;
 use std::thread::Threads;
 use test_runs::Inputs;
@@ -50,6 +51,27 @@ edge = [
 ]
 "#;
 
+/// A chain of a filter of repeats and a clamp, of one worker each.
+const CHAINED_DEDUPE: &str = r#"
+columns = ["account:text", "seen:number:own"]
+node = [
+  { name = "card", kind = "source" },
+  { name = "d", kind = "dedupe", key = "account" },
+  { name = "least", kind = "clamp", on = "seen", low = 2, high = 5 },
+  { name = "out", kind = "sink", columns = ["account", "seen"] },
+]
+edge = [
+  { from = "card", to = "d" },
+  { from = "d", to = "least" },
+  { from = "least", to = "out" },
+]
+"#;
+
+/// The first payment of each account. No column is given to `seen`, which begins as 0.
+const FIRST_ACCOUNTS: &str = "sink,row,account,seen
+out,1,ann,2\nout,2,bob,2\nout,4,cid,2\nout,7,dee,2\nout,11,eve,2
+";
+
 /// A count of three workers, then a split, and two copies that meet again. Each counter has one
 /// lane in, the other workers have several.
 const WIDE: &str = r#"
@@ -94,9 +116,9 @@ const SIZES: [(&str, &str); 5] = [
     ("16", "64"),
 ];
 
-fn counted(threads: &'static str, capacity: &'static str) -> Input<'static> {
+fn chained(job: &'static str, threads: &'static str, capacity: &'static str) -> Input<'static> {
     Input {
-        job: CHAINED_COUNT,
+        job,
         requests: "",
         payments: ACCOUNTS,
         threads,
@@ -154,16 +176,32 @@ where
     Ok(wrong)
 }
 
-#[test]
-fn same_as_the_plain_executor(rt: HostRuntime) {
+/// Checks the runs of a chain whose workers have one lane in each.
+fn check_chain<R>(rt: &R, job: &'static str)
+where
+    R: AllocGlobal + Abort + Threads + Wait + Copy + Send + Sync + 'static,
+{
     for (threads, capacity) in SIZES {
-        let input = counted(threads, capacity);
+        let input = chained(job, threads, capacity);
         assert_eq!(rt;
-            wrong_runs(&rt, rt.alloc(), input, 1),
+            wrong_runs(rt, rt.alloc(), input, 1),
             Ok(0),
             "{threads} {capacity}"
         );
     }
+}
+
+#[test]
+fn same_as_the_plain_executor(rt: HostRuntime) {
+    check_chain(&rt, CHAINED_COUNT);
+    check_chain(&rt, CHAINED_DEDUPE);
+}
+
+#[test]
+fn first_payments_of_accounts(rt: HostRuntime) {
+    let input = chained(CHAINED_DEDUPE, "1", "1");
+    let alerts = plain_alerts(rt.alloc(), input).expect(&rt, "memory");
+    check_text(&rt, alerts.as_slice(), FIRST_ACCOUNTS);
 }
 
 #[test]

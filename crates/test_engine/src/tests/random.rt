@@ -1,8 +1,8 @@
 //! Runs of random jobs, beside those of the plain executor.
 //!
-//! No job has a count: with several lanes into a counter its numbers depend on the schedule. A
-//! request either turns one function before the first row, or leaves the meaning of functions and
-//! comes between rows. So the lines of the alerts don't depend on the schedule.
+//! No job has a count or a dedupe: with several lanes into a counter its numbers depend on the
+//! schedule. A request either turns one function before the first row, or leaves the meaning of
+//! functions and comes between rows. So the lines of the alerts don't depend on the schedule.
 use crate::tests::plain::plain_alerts;
 use crate::tests::random_jobs::{SINK, SOURCES, STAGES, Stage, TAGS};
 use crate::tests::seen::{Alerts, DONE, Wanted};
@@ -52,7 +52,7 @@ impl Case {
 
 fn stage_of(seed: u64, number: u64) -> &'static Stage {
     STAGES
-        .get(draw(seed, number.wrapping_add(10), 5) as usize)
+        .get(draw(seed, number.wrapping_add(10), 6) as usize)
         .unwrap_or(&STAGES[0])
 }
 

@@ -69,6 +69,38 @@ when = [["n", ">=", 5*]]
 "#,
 };
 
+const CLAMP: Stage = Stage {
+    text: r#"
+[[node]]
+name = "k#"
+kind = "clamp"
+workers = %
+on = "n"
+low = *
+high = 5*
+[[edge]]
+from = "<"
+to = "k#"
+"#,
+    exit: 'k',
+    same: r#"
+[[request.change]]
+node = "k#"
+from = 0
+kind = "map"
+steps = [["n", "max", "n", *], ["n", "min", "n", 5*]]
+"#,
+    other: r#"
+[[request.change]]
+node = "k#"
+from = 0
+kind = "clamp"
+on = "n"
+low = 4*
+high = 4*
+"#,
+};
+
 const SPLIT: Stage = Stage {
     text: r#"
 [[node]]
@@ -218,7 +250,7 @@ steps = [["n", "sub", "n", *]]
 "#,
 };
 
-pub const STAGES: [Stage; 5] = [MAP, FILTER, SPLIT, COPIES, PARTED];
+pub const STAGES: [Stage; 6] = [MAP, FILTER, CLAMP, SPLIT, COPIES, PARTED];
 
 /// A source. Its tuples leave it for the first stage.
 pub const SOURCES: &str = r#"columns = ["n:number", "tags:text"]

@@ -4,6 +4,10 @@ use job_file::read_job;
 use std::alloc::Global;
 use tuple_trace::NoMemory;
 
+/// The function of the node `big`.
+const FILTER: &str = r#"kind = "filter"
+when = [["amount", ">=", 100]]"#;
+
 const CASES: &[Case] = &[
     Case {
         old: "[[edge]]",
@@ -19,8 +23,8 @@ const CASES: &[Case] = &[
         new: "kind = \"drain\"",
         told: "fries: job file `job.toml`: J2 kind (node 2, `out`, kind `drain`, line 12)
   This key is missing, isn't in the layout, or its value isn't of the form it asks for.
-  Line 14 has `kind = \"drain\"`; `kind` is to be source, filter, map, enrich, count, split, \
-replicate or sink, as a string.
+  Line 14 has `kind = \"drain\"`; `kind` is to be source, filter, map, enrich, count, dedupe, \
+clamp, split, replicate or sink, as a string.
   Compare the keys of the file with the layout in docs/JOBS.md.
 ",
     },
@@ -80,6 +84,71 @@ NAME of a-z, 0-9 and _, and text, number or cents as KIND.
         told: "fries: job file `job.toml`: J2 tables (table `risks`)
   This key is missing, isn't in the layout, or its value isn't of the form it asks for.
   Its entry `ann` is to be a whole number or a string.
+  Compare the keys of the file with the layout in docs/JOBS.md.
+",
+    },
+    Case {
+        old: FILTER,
+        new: "kind = \"clamp\"\non = \"amount\"\nlow = 5\nhigh = 4",
+        told: "fries: job file `job.toml`: J2 high (node 1, `big`, kind `clamp`, line 7)
+  This key is missing, isn't in the layout, or its value isn't of the form it asks for.
+  Line 12 has `high = 4`; `high` is to be a whole number, not below `low`.
+  Compare the keys of the file with the layout in docs/JOBS.md.
+",
+    },
+    // The clamp before it has lawful ends.
+    Case {
+        old: FILTER,
+        new: r#"kind = "clamp"
+on = "amount"
+low = 5
+high = 5
+
+[[node]]
+name = "later"
+kind = "clamp"
+high = 9
+on = "amount"
+low = 10"#,
+        told: "fries: job file `job.toml`: J2 high (node 2, `later`, kind `clamp`, line 14)
+  This key is missing, isn't in the layout, or its value isn't of the form it asks for.
+  Line 17 has `high = 9`; `high` is to be a whole number, not below `low`.
+  Compare the keys of the file with the layout in docs/JOBS.md.
+",
+    },
+    Case {
+        old: FILTER,
+        new: "kind = \"clamp\"\non = \"amount\"\nlow = 5",
+        told: "fries: job file `job.toml`: J2 high (node 1, `big`, kind `clamp`, line 7)
+  This key is missing, isn't in the layout, or its value isn't of the form it asks for.
+  It has no `high`; `high` is to be a whole number, not below `low`.
+  Compare the keys of the file with the layout in docs/JOBS.md.
+",
+    },
+    Case {
+        old: FILTER,
+        new: "kind = \"clamp\"\non = \"amount\"\nlow = \"a\"\nhigh = 4",
+        told: "fries: job file `job.toml`: J2 low (node 1, `big`, kind `clamp`, line 7)
+  This key is missing, isn't in the layout, or its value isn't of the form it asks for.
+  Line 11 has `low = \"a\"`; `low` is to be a whole number.
+  Compare the keys of the file with the layout in docs/JOBS.md.
+",
+    },
+    Case {
+        old: FILTER,
+        new: "kind = \"clamp\"\non = \"amount\"\nlow = 1\nhigh = 4\nmost = 2",
+        told: "fries: job file `job.toml`: J2 unknown (node 1, `big`, kind `clamp`, line 7)
+  This key is missing, isn't in the layout, or its value isn't of the form it asks for.
+  Line 13 has `most = 2`; its keys are `name`, `kind`, `workers`, `roof`, `on`, `low`, `high`.
+  Compare the keys of the file with the layout in docs/JOBS.md.
+",
+    },
+    Case {
+        old: FILTER,
+        new: "kind = \"dedupe\"\nroof = 1\nkey = \"account\"",
+        told: "fries: job file `job.toml`: J2 unknown (node 1, `big`, kind `dedupe`, line 7)
+  This key is missing, isn't in the layout, or its value isn't of the form it asks for.
+  Line 10 has `roof = 1`; its keys are `name`, `kind`, `workers`, `key`.
   Compare the keys of the file with the layout in docs/JOBS.md.
 ",
     },
@@ -197,8 +266,27 @@ The job's columns are `account:text`, `amount:cents`, `seen:number:own`.
 ",
     },
     Case {
-        old: r#"kind = "filter"
-when = [["amount", ">=", 100]]"#,
+        old: FILTER,
+        new: "kind = \"dedupe\"\nkey = \"amount\"",
+        told: "fries: job file `job.toml`: J8 node 1 (`big`, kind `dedupe`, line 7)
+  A column, test or literal of this node doesn't fit, or an entry of its table doesn't.
+  Line 10 has `key = \"amount\"`, and `amount` holds no texts, which are wanted here. \
+The job's columns are `account:text`, `amount:cents`, `seen:number:own`.
+  Check each column's name and kind; a text takes only the tests `=` and `!=`.
+",
+    },
+    Case {
+        old: FILTER,
+        new: "kind = \"clamp\"\non = \"account\"\nlow = 1\nhigh = 2",
+        told: "fries: job file `job.toml`: J8 node 1 (`big`, kind `clamp`, line 7)
+  A column, test or literal of this node doesn't fit, or an entry of its table doesn't.
+  Line 10 has `on = \"account\"`, and `account` holds texts, where numbers or cents are wanted. \
+The job's columns are `account:text`, `amount:cents`, `seen:number:own`.
+  Check each column's name and kind; a text takes only the tests `=` and `!=`.
+",
+    },
+    Case {
+        old: FILTER,
         new: r#"kind = "enrich"
 key = "account"
 into = "seen"
@@ -234,8 +322,7 @@ The job's columns are `account:text`, `amount:cents`, `seen:number:own`.
 ",
     },
     Case {
-        old: r#"kind = "filter"
-when = [["amount", ">=", 100]]"#,
+        old: FILTER,
         new: r#"kind = "enrich"
 key = "account"
 into = "seen"

@@ -66,6 +66,16 @@ const FAULTS: &[Case] = &[
 ",
     },
     Case {
+        old: FILTER,
+        new: "kind = \"clamp\"\non = \"amount\"\nlow = 2\nhigh = 1",
+        told: "fries: request file `requests.toml`: F2 high \
+(request 1, change 1 of `big`, line 4)
+  This key is missing, isn't in the layout, or its value isn't of the form it asks for.
+  Line 10 has `high = 1`; `high` is to be a whole number, not below `low`.
+  Compare the keys of the file with the layout in docs/REQUESTS.md.
+",
+    },
+    Case {
         old: "200]]\n",
         new: "200]]\n[[request]]\nafter = \"1\"\n",
         told: "fries: request file `requests.toml`: F2 after (request 2, line 9)
@@ -152,6 +162,24 @@ The job's columns are `account:text`, `amount:cents`, `seen:number:own`.
   The new function doesn't fit the job: a column, a table, a test or a literal.
   It names the table `risks`, and the job has none. A request brings no table of its own.
   Check each name against the job, and each literal against its column's kind.
+",
+    },
+    Case {
+        old: FILTER,
+        new: "kind = \"clamp\"\non = \"account\"\nlow = 1\nhigh = 2",
+        told: "Q5 at request 1, line 1, change 1 of `big`
+  The new function doesn't fit the job: a column, a table, a test or a literal.
+  Line 8 has `on = \"account\"`, and `account` holds texts, where numbers or cents are wanted. \
+The job's columns are `account:text`, `amount:cents`, `seen:number:own`.
+  Check each name against the job, and each literal against its column's kind.
+",
+    },
+    Case {
+        old: FILTER,
+        new: "kind = \"dedupe\"\nkey = \"account\"",
+        told: "Q6 at request 1, line 1, change 1 of `big`
+  The node can't become this kind, count by this key, or make so many pieces.
+  Keep the kind and the key, or raise the node's `roof` in the job file.
 ",
     },
     Case {

@@ -1,15 +1,21 @@
 // What operators make of tuples, and which workers these reach.
+ghost use Rattle.keyed_state.specs.Counts.{CanCarry};
+
 use super::cases::{
     COPIES, COUNT, COUNT_TURNED, Case, DOUBLED, DOUBLED_BARE, DOUBLED_TURNED, NUMBER_TESTS,
     ONE_PORT, OPERATIONS, PIECE_COUNTS, PIECE_TURNED, PIECES, PRODUCT, RATED, RATED_TURNED,
     TEXT_TESTS, UNCHANGED, ZERO_BARE, ZERO_TURNED,
 };
+use super::clamp_cases::{CLAMPED, CLAMPED_BARE, CLAMPED_TURNED};
+use super::dedupe_cases::{
+    ALL_THREE, BOTH_FIRSTS, BY_ACCOUNT, FIRSTS, FIRSTS_BARE, FIRSTS_TURNED, THE_OTHER, TWO_AND_ONE,
+};
 use super::fixtures::{
     BARE, GIVEN, ONE_WAY, TURNED, TWO_WAYS, check, job_of, lines_of_outputs, rows_of,
 };
 use crate::tests::check_text;
-use jobs::{Columns, Func, Job, Lookup};
-use keyed_state::Keyed;
+use jobs::{ClampBy, Columns, Func, Job, Lookup};
+use keyed_state::{Carry, Keyed};
 use operators::{Outs, Visited, lane_of, most_outputs, out_ports};
 use std::process::Abort;
 use tuple_trace::{Row, Value, Visit};
@@ -22,10 +28,20 @@ const VISIT: Visit = Visit {
     last: 1,
 };
 
-// What a function puts out at the node `x` for all rows, with one set of counts, as lines.
+// What a function puts out at the node `x` for all rows, with no counts before, as lines.
 fn lines_of(rt: &(impl AllocGlobal + Abort), job: &Job, func: &Func, rows: &[Row]) -> String {
+    lines_after(rt, job, func, &mut Keyed::new(rt.alloc()), rows)
+}
+
+// The same with these counts before.
+fn lines_after(
+    rt: &(impl AllocGlobal + Abort),
+    job: &Job,
+    func: &Func,
+    counts: &mut Keyed,
+    rows: &[Row],
+) -> String {
     let ports = out_ports(rt.alloc(), job, NODE).expect(rt, "memory");
-    let mut counts = Keyed::new(rt.alloc());
     let mut outs = Outs::new(rt.alloc());
     for row in rows {
         let here = Visited {
@@ -33,15 +49,19 @@ fn lines_of(rt: &(impl AllocGlobal + Abort), job: &Job, func: &Func, rows: &[Row
             ports: ports.as_slice(),
             visit: VISIT,
         };
-        here.apply(rt.alloc(), func, &mut counts, &row.tuple, &mut outs)
+        here.apply(rt.alloc(), func, counts, &row.tuple, &mut outs)
             .expect(rt, "memory");
     }
     lines_of_outputs(rt, outs.as_slice())
 }
 
 fn put_out(rt: &(impl AllocGlobal + Abort), job: &Job, rows: &[Row]) -> String {
+    lines_of(rt, job, func_in(rt, job), rows)
+}
+
+fn func_in<'a>(rt: &impl Abort, job: &'a Job) -> &'a Func {
     let node = job.nodes.as_slice().get(NODE as usize).expect(rt, "a node");
-    lines_of(rt, job, &node.func, rows)
+    &node.func
 }
 
 // Checks what functions put out for payments with these columns.
@@ -141,6 +161,55 @@ fn keys_are_counted(rt: HostRuntime) {
 }
 
 #[test]
+fn first_tuples_of_a_text_pass(rt: HostRuntime) {
+    check_cases(&rt, GIVEN, ONE_WAY, FIRSTS);
+    check_cases(&rt, TURNED, ONE_WAY, FIRSTS_TURNED);
+    check_cases(&rt, BARE, ONE_WAY, FIRSTS_BARE);
+}
+
+// Checks what passes of payments that come once more, after a carry.
+fn check_again(rt: &(impl AllocGlobal + Abort), carry: Carry, want: &str)
+    requires { CanCarry carry }
+{
+    let job = job_of(rt, GIVEN, BY_ACCOUNT, ONE_WAY);
+    let (func, rows) = (func_in(rt, &job), rows_of(rt, GIVEN, TWO_AND_ONE));
+    let mut counts = Keyed::new(rt.alloc());
+    let first = lines_after(rt, &job, func, &mut counts, rows.as_slice());
+    check_text(rt, first.as_bytes(), BOTH_FIRSTS);
+    counts.carry(carry);
+    let again = lines_after(rt, &job, func, &mut counts, rows.as_slice());
+    check_text(rt, again.as_bytes(), want);
+}
+
+#[test]
+fn texts_are_new_once_their_counts_are_gone(rt: HostRuntime) {
+    check_again(&rt, Carry::Keep, "");
+    check_again(&rt, Carry::Reset, BOTH_FIRSTS);
+    check_again(&rt, Carry::DropBelow(2), THE_OTHER);
+    check_again(&rt, Carry::Scale(1, 2), THE_OTHER);
+    check_again(&rt, Carry::Scale(0, 1), BOTH_FIRSTS);
+    // Below 0, so a text is met once it comes to 1.
+    check_again(&rt, Carry::Scale(-1, 1), ALL_THREE);
+}
+
+// A clamp of a column of the job, or of one that isn't there.
+fn clamp_of(on: u32, low: i64, high: i64) -> Func {
+    Func::Clamp(ClampBy { on, low, high })
+}
+
+#[test]
+fn clamps_bring_numbers_between_two(rt: HostRuntime) {
+    check_cases(&rt, GIVEN, ONE_WAY, CLAMPED);
+    check_cases(&rt, TURNED, ONE_WAY, CLAMPED_TURNED);
+    check_cases(&rt, BARE, ONE_WAY, CLAMPED_BARE);
+    check_func(&rt, &clamp_of(9, 5, 6), " 0#1.0@1.0.1 ann  4 1\n");
+    // No job has such ends: what isn't below the low one becomes the high one.
+    check_func(&rt, &clamp_of(2, 5, 3), " 0#1.0@1.0.1 ann  5 1\n");
+    check_func(&rt, &clamp_of(2, 4, 3), " 0#1.0@1.0.1 ann  3 1\n");
+    check_func(&rt, &clamp_of(2, 2, -1), " 0#1.0@1.0.1 ann  -1 1\n");
+}
+
+#[test]
 fn sources_and_sinks_put_nothing_out(rt: HostRuntime) {
     check_func(&rt, &Func::Source, "");
     check_func(&rt, &Func::Sink(Columns::new(rt.alloc())), "");
@@ -154,6 +223,10 @@ fn an_output_is_the_tuple_with_its_visit(rt: HostRuntime) {
 const EIGHT_COUNTS: &str =
     "kind = \"count\"\nkey = \"account\"\nadd = 1\ninto = \"risk\"\nworkers = 8\n";
 
+const EIGHT_DEDUPES: &str = "kind = \"dedupe\"\nkey = \"account\"\nworkers = 8\n";
+
+const THREE_CLAMPS: &str = "kind = \"clamp\"\non = \"risk\"\nlow = 0\nhigh = 9\nworkers = 3\n";
+
 const THREE_SPLITS: &str = "kind = \"split\"\non = \"tags\"\nby = \";\"\nmost = 3\nworkers = 3\n";
 
 const TWO_ROWS: &str = "source,account,tags,amount,risk\nin,k1,,0,1\nin,k1,,0,1\n";
@@ -165,6 +238,10 @@ type Reach = (&'static str, &'static str, &'static str, u32, u32);
 static REACHES: &[Reach] = &[
     (EIGHT_COUNTS, GIVEN, TWO_ROWS, 0, 6),
     (EIGHT_COUNTS, BARE, "source\nin\n", 0, 0),
+    (EIGHT_DEDUPES, GIVEN, TWO_ROWS, 0, 6),
+    (EIGHT_DEDUPES, BARE, "source\nin\n", 0, 0),
+    (EIGHT_DEDUPES, GIVEN, TWO_ROWS, 1, 0),
+    (THREE_CLAMPS, GIVEN, TWO_ROWS, 0, 2),
     (THREE_SPLITS, GIVEN, TWO_ROWS, 0, 2),
     (THREE_SPLITS, GIVEN, TWO_ROWS, 1, 0),
 ];

@@ -181,6 +181,14 @@ pub static OF_PAYMENTS: &[Case] = &[
         Some(QFault::KindOrKey(1)),
     ),
     (
+        "[[request.change]]\nnode = \"hot\"\nfrom = 0\nkind = \"clamp\"\non = \"seen\"\nlow = 0\nhigh = 9\n",
+        None,
+    ),
+    (
+        "[[request.change]]\nnode = \"big\"\nfrom = 0\nkind = \"clamp\"\non = \"seen\"\nlow = 0\nhigh = 9\n",
+        Some(QFault::KindOrKey(1)),
+    ),
+    (
         "[[request.change]]\nnode = \"big\"\nfrom = 0\nkind = \"filter\"\nwhen = []\n",
         None,
     ),
@@ -267,6 +275,22 @@ pub static FUNCTIONS: &[(&'static str, bool)] = &[
     ),
     (
         "kind = \"enrich\"\nkey = \"account\"\ninto = \"risk\"\ntable = \"none\"\nother = 1\n",
+        false,
+    ),
+    ("kind = \"dedupe\"\nkey = \"account\"\n", true),
+    ("kind = \"dedupe\"\nkey = \"amount\"\n", false),
+    ("kind = \"dedupe\"\nkey = \"none\"\n", false),
+    (
+        "kind = \"clamp\"\non = \"amount\"\nlow = 1\nhigh = 1\n",
+        true,
+    ),
+    ("kind = \"clamp\"\non = \"seen\"\nlow = 1\nhigh = 2\n", true),
+    (
+        "kind = \"clamp\"\non = \"account\"\nlow = 1\nhigh = 2\n",
+        false,
+    ),
+    (
+        "kind = \"clamp\"\non = \"none\"\nlow = 1\nhigh = 2\n",
         false,
     ),
     ("kind = \"sink\"\ncolumns = [\"seen\"]\n", true),

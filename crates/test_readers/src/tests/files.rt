@@ -38,6 +38,19 @@ into = "sum"
 table = "known"
 other = 0
 [[node]]
+name = "once"
+kind = "dedupe"
+workers = 3
+key = "who"
+[[node]]
+name = "within"
+kind = "clamp"
+workers = 2
+on = "sum"
+low = 0
+high = 500
+roof = 3
+[[node]]
 name = "both"
 kind = "replicate"
 [[node]]
@@ -66,6 +79,12 @@ from = "add"
 to = "rate"
 [[edge]]
 from = "rate"
+to = "once"
+[[edge]]
+from = "once"
+to = "within"
+[[edge]]
+from = "within"
 to = "both"
 [[edge]]
 from = "both"

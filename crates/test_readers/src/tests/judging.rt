@@ -2,6 +2,7 @@
 use super::change_cases::{self, Case, EARLIER, LATER, TWO_SPLITS};
 use super::files::KINDS;
 use super::fixtures::{check, job_in, requests_in, stream_requests_in};
+use super::later_changes;
 use jobs::{Func, Job};
 use std::process::Abort;
 use test_texts::{CHAIN, PAYMENTS_JOB, PAYMENTS_REQUESTS, ROOF};
@@ -118,6 +119,7 @@ fn refused_changes(rt: HostRuntime) {
     check_changes(&rt, CHAIN, change_cases::OF_THE_CHAIN);
     check_changes(&rt, PAYMENTS_JOB, change_cases::OF_PAYMENTS);
     check_changes(&rt, KINDS, change_cases::OF_KINDS);
+    check_changes(&rt, KINDS, later_changes::OF_KINDS);
 }
 
 #[test]
@@ -128,7 +130,7 @@ fn roof(rt: HostRuntime) {
 /// Checks a book as it begins: node 3 counts by the first column, and the request comes too late
 /// only if the latest accepted one has a later row.
 fn check_book(rt: &impl Abort, book: &Book, job: &Job, request: &Request) {
-    assert!(rt; book.node_count() == 9);
+    assert!(rt; book.node_count() == 11);
     assert!(rt; request.changes.len() <= 64);
     check(rt, book.version(3), 0);
     check(rt, count_key(book.func(3)), Some(0));

@@ -14,6 +14,8 @@ static TOLD: &[Told] = &[
     (false, false, false, false, 1, 1, 5),
     (false, false, false, true, 1, 2, 1),
     (false, false, false, true, 1, 1, 1),
+    (false, false, false, false, 1, 1, 3),
+    (false, false, false, true, 1, 3, 2),
     (false, false, true, false, 1, 1, 1),
     (false, false, false, false, 1, 1, 1),
     (false, false, false, false, 1, 1, 1),

@@ -1,6 +1,6 @@
 // Job files, and the first fault of each.
 use super::fixtures::{check, job_in, read, read_bytes};
-use super::{edge_cases, func_cases, job_cases};
+use super::{clamp_cases, dedupe_cases, edge_cases, func_cases, job_cases};
 use job_file::{JobFault, faulty_is_no_job, files_have_one_fault};
 use jobs::{
     Job, functions_fit, jobs_have_one_fault, refused_is_unlawful, roofs_hold, weight,
@@ -87,6 +87,8 @@ fn faults_and_where_they_stand(rt: HostRuntime) {
 #[test]
 fn functions_are_refused_where_they_stand(rt: HostRuntime) {
     check_answers(&rt, func_cases::CASES);
+    check_answers(&rt, dedupe_cases::READ);
+    check_answers(&rt, clamp_cases::READ);
 }
 
 #[test]

@@ -120,6 +120,46 @@ pub static CASES: &[(RequestText, &'static str, Asked)] = &[
         "node = \"big\"\nfrom = 0\nkind = \"map\"\nsteps = []\nroof = 1\n",
         Err(ReqFileFault::Shape(Part::Unknown)),
     ),
+    (
+        RequestText::Change,
+        "node = \"big\"\nfrom = 0\nkind = \"dedupe\"\nkey = \"nothing\"\n",
+        Ok(1),
+    ),
+    (
+        RequestText::Change,
+        "node = \"big\"\nfrom = 0\nkind = \"dedupe\"\n",
+        Err(ReqFileFault::Shape(Part::Key)),
+    ),
+    (
+        RequestText::Change,
+        "node = \"big\"\nfrom = 0\nkind = \"dedupe\"\nkey = \"account\"\nworkers = 2\n",
+        Err(ReqFileFault::Shape(Part::Unknown)),
+    ),
+    (
+        RequestText::Change,
+        "node = \"big\"\nfrom = 0\nkind = \"clamp\"\non = \"nothing\"\nlow = 1\nhigh = 1\n",
+        Ok(1),
+    ),
+    (
+        RequestText::Change,
+        "node = \"big\"\nfrom = 0\nkind = \"clamp\"\non = \"amount\"\nlow = 1.5\nhigh = 2\n",
+        Err(ReqFileFault::Shape(Part::Low)),
+    ),
+    (
+        RequestText::Change,
+        "node = \"big\"\nfrom = 0\nkind = \"clamp\"\non = \"amount\"\nlow = 1\n",
+        Err(ReqFileFault::Shape(Part::High)),
+    ),
+    (
+        RequestText::Change,
+        "node = \"big\"\nfrom = 0\nkind = \"clamp\"\non = \"amount\"\nlow = 2\nhigh = 1\n",
+        Err(ReqFileFault::Shape(Part::High)),
+    ),
+    (
+        RequestText::Change,
+        "node = \"big\"\nfrom = 0\nkind = \"clamp\"\non = \"amount\"\nlow = 1\nhigh = 2\nroof = 1\n",
+        Err(ReqFileFault::Shape(Part::Unknown)),
+    ),
     (RequestText::Carry, "\"keep\"", Ok(1)),
     (RequestText::Carry, "\"reset\"", Ok(1)),
     (RequestText::Carry, "[\"scale\", -1, 0]", Ok(1)),

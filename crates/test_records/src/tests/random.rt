@@ -15,7 +15,7 @@ columns = ["n", "tags"]
 "#;
 
 /// The kinds of nodes in the middle, and for each a request that changes it.
-const KINDS: [(&str, &str); 4] = [
+const KINDS: [(&str, &str); 6] = [
     (
         "kind = \"map\"\nsteps = [[\"n\", \"add\", \"n\", 3]]\n",
         "kind = \"map\"\nsteps = [[\"n\", \"sub\", \"n\", 1]]\n",
@@ -32,10 +32,18 @@ const KINDS: [(&str, &str); 4] = [
         "kind = \"count\"\nkey = \"tags\"\nadd = 1\ninto = \"seen\"\n",
         "kind = \"count\"\nkey = \"tags\"\nadd = 2\ninto = \"seen\"\n",
     ),
+    (
+        "kind = \"dedupe\"\nkey = \"tags\"\n",
+        "kind = \"dedupe\"\nkey = \"tags\"\ncarry = \"reset\"\n",
+    ),
+    (
+        "kind = \"clamp\"\non = \"n\"\nlow = 10\nhigh = 60\n",
+        "kind = \"clamp\"\non = \"n\"\nlow = 30\nhigh = 30\n",
+    ),
 ];
 
 fn kind_of(seed: u64, number: u64) -> (&'static str, &'static str) {
-    let place = draw(seed, number.wrapping_add(10), 4) as usize;
+    let place = draw(seed, number.wrapping_add(10), 6) as usize;
     KINDS.get(place).copied().unwrap_or(KINDS[0])
 }
 

@@ -1,4 +1,4 @@
-use Rattle.std.proofs.Common.{◌∙◌, ◌+◌, ◌<◌, ℕ, ap, arith, sym, subst, take}
+use Rattle.std.proofs.Common.{◌∙◌, ◌+◌, ◌<◌, ℕ, ap, arith, refl, sym, subst, take}
 use Rattle.std.specs.Prelude.{◌↔◌, IsTrue, length, slice_get}
 use Rattle.jobs.specs.Job.{job_view}
 use Rattle.flow_dag.specs.Masks.{Has}
@@ -41,8 +41,8 @@ loop-place-preserved c =
     let told = bit_told c.has_wide_bit.result c.args.edges c.lane.result.edge c.lane.result.edge c.has_wide_bit.ensures (λ k. c.lane.result.edge) in
     elim c.if-has_wide_bit.branch [
       | then-has_wide_bit w ↦ subst (λ m. (k : ℕ) → Has m k ↔ IsTrue (is_on c.args.edges (slice_get (take (i + 1) all) k))) (sym w.places-is)
-          (places_more c.loop-place.places w.with_wide_bit-places.result c.args.edges i c.lane.result.edge all edge (sym told ∙ w.if-has_wide_bit.true)
+          (places_more (is_on c.args.edges) c.loop-place.places w.with_wide_bit-places.result i c.lane.result.edge all edge (sym told ∙ w.if-has_wide_bit.true)
           w.with_wide_bit-places.ensures.set w.with_wide_bit-places.ensures.others c.loop-place.invariant)
       | else-has_wide_bit w ↦ subst (λ m. (k : ℕ) → Has m k ↔ IsTrue (is_on c.args.edges (slice_get (take (i + 1) all) k))) (sym w.places-is)
-          (places_same c.loop-place.places c.args.edges i c.lane.result.edge all edge (sym told ∙ w.if-has_wide_bit.false) c.loop-place.invariant)
+          (places_same (is_on c.args.edges) c.loop-place.places i c.lane.result.edge all edge refl (sym told ∙ w.if-has_wide_bit.false) c.loop-place.invariant)
     ]
