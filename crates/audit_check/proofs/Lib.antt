@@ -1,4 +1,3 @@
-pub mod CellLemmas
 pub mod SpellingLemmas
 pub mod NameLemmas
 pub mod EntryLemmas

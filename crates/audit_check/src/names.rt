@@ -1,14 +1,14 @@
 // Workers and lanes, as the cells of an audit name them.
-ghost use Rattle.std.specs.Prelude.{◌≡◌, ◌≢◌, ◌<◌, ◌↔◌, ℕ, IfNone, IfSome, IsTrue, Some, decimal};
-ghost use Rattle.std.specs.Prelude.{length, slice_get};
+ghost use Rattle.std.specs.Prelude.{◌≡◌, ◌≢◌, ◌↔◌, ℕ, IfNone, IfSome, IsTrue, Some, decimal};
+ghost use Rattle.std.specs.Prelude.{slice_get};
 ghost use Rattle.flow_model.specs.Setup.{setup_view};
-ghost use Rattle.flow_model.specs.Workers.{workers_in};
+ghost use Rattle.flow_model.specs.SetupWorker.{setup_here};
 ghost use Rattle.audit_laws.specs.Lines.{LeadsTo};
 ghost use Rattle.audit_laws.specs.Names.{named_workers};
 ghost use Rattle.audit_check.specs.Cells.{NamesWorker, named_as};
 
 use crate::spelling::narrow;
-use flow_model::Setup;
+use flow_model::{Setup, SetupWorker};
 
 /// The worker with this place at the node with this name. The worker `near` is tried first.
 pub(crate) fn worker_named(setup: &Setup, node: &[u8], place: &[u8], near: u32) -> Option<u32>
@@ -33,7 +33,15 @@ fn is_worker(setup: &Setup, worker: u32, node: &[u8], place: u32) -> bool
     ensures { IsTrue result → slice_get (named_workers (setup_view setup.now).job.nodes) worker
         ≡ Some (named_as node.now place) }
 {
-    worker < setup.workers() && is_named(setup, worker, node, place)
+    worker < setup.workers()
+        && is_named(
+            SetupWorker {
+                setup,
+                number: worker,
+            },
+            node,
+            place,
+        )
 }
 
 fn search(setup: &Setup, node: &[u8], place: u32) -> Option<u32>
@@ -45,30 +53,35 @@ fn search(setup: &Setup, node: &[u8], place: u32) -> Option<u32>
         ≢ Some (named_as node.now place)) }
 {
     for worker in 0..setup.workers() {
-        if is_named(setup, worker, node, place) {
+        if is_named(
+            SetupWorker {
+                setup,
+                number: worker,
+            },
+            node,
+            place,
+        ) {
             return Some(worker);
         }
     }
     None
 }
 
-fn is_named(setup: &Setup, worker: u32, node: &[u8], place: u32) -> bool
-    requires { worker < length (workers_in (setup_view setup.now).job) }
-    ensures { IsTrue result ↔ (slice_get (named_workers (setup_view setup.now).job.nodes) worker
-        ≡ Some (named_as node.now place)) }
+fn is_named(who: SetupWorker<'_>, node: &[u8], place: u32) -> bool
+    ensures { IsTrue result ↔ (slice_get (named_workers (setup_here who.entry).job.nodes)
+        who.entry.number ≡ Some (named_as node.now place)) }
 {
-    let (name, index) = name_of(setup, worker);
-    index == place && name == node
+    let (name, at) = name_of(who);
+    at == place && name == node
 }
 
-fn name_of(setup: &Setup, worker: u32) -> (&[u8], u32)
-    requires { worker < length (workers_in (setup_view setup.now).job) }
-    ensures { slice_get (named_workers (setup_view setup.now).job.nodes) worker
+fn name_of(who: SetupWorker<'_>) -> (&[u8], u32)
+    ensures { slice_get (named_workers (setup_here who.entry).job.nodes) who.entry.number
         ≡ Some (named_as result.0.now result.1) }
 {
-    let at = setup.worker_at(worker);
-    let node = &setup.job.nodes.as_slice()[at.node as usize];
-    (node.name.as_slice(), at.index)
+    let at = who.setup.worker_at(who.number);
+    let node = &who.setup.job.nodes.as_slice()[at.node as usize];
+    (node.name.as_slice(), at.place)
 }
 
 /// The lane into a worker that a cell spells.

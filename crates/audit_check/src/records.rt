@@ -18,7 +18,7 @@ pub(crate) struct Six<'c> {
 }
 
 /// The cells of a record, if they are six.
-#[tactic(auto, using(crate::proofs::CellLemmas::six_cells))]
+#[tactic(auto, using(sink_journal::proofs::CellLemmas::six_cells))]
 pub(crate) fn six_of(cells: &ByteRecord) -> Option<Six<'_>>
     ensures some { IfSome result (λ six. fields_of cells.now ≡ cells_of six) }
     ensures none { IfNone result (length (fields_of cells.now) ≢ 6) }

@@ -77,7 +77,7 @@ fn put(setup: &Setup, standing: &mut Standing, row: &Row, issued: u64) -> Result
 {
     let feeder = WorkerAt {
         node: row.source,
-        index: 0,
+        place: 0,
     };
     let tuple = row.tuple.under(issued)?;
     let Some(lane) = setup.route(feeder, 0, &row.tuple) else {

@@ -113,7 +113,7 @@ asked_none k old = (refl, λ i p q a b. let e : q ≡ p = same_Some q p (sym b �
 pub ask_next : (k : ℕ) (old now : List PosterIs) (x y : PosterIs) → Asked k old now → slice_get now k ≡ Some x → y.within ≡ x.within → y.posted ≡ x.posted → Asked (k + 1) old (set now k y)
 ask_next k old now x y h g w e =
     pairs_set (AskedAt k) (AskedAt (k + 1)) old now k x y h g
-    (λ i p q n r. (r.0, r.1, (λ le. r.2 (omega (arith, le)))))
+    (λ i p q n a r. (r.0, r.1, (λ le. r.2 (omega (arith, le)))))
     (λ p a r. (w ∙ r.0, e ∙ r.1, (λ le. absurd (omega (arith, le)))))
 
 -- a box of a later place changes
@@ -187,7 +187,7 @@ pub count_next : (setup : SetupView) (request k : ℕ) (old now : List ℕ) (x y
     → Counted setup request (k + 1) old (set now k y)
 count_next setup request k old now x y h g e s =
     pairs_set (CountedAt setup request k) (CountedAt setup request (k + 1)) old now k x y h g
-    (λ i m n ne r. ((λ lt. r.0 (omega (arith, lt, ne))), (λ le. r.1 (omega (arith, le)))))
+    (λ i m n ne a r. ((λ lt. r.0 (omega (arith, lt, ne))), (λ le. r.1 (omega (arith, le)))))
     (λ m a r. ((λ lt. rw e (s ∙ ap (λ z. z + 1) (r.1 (omega arith)))), (λ le. absurd (omega (arith, le)))))
 
 pub uncounted : (setup : SetupView) (request k : ℕ) (old now : List ℕ) (x : ℕ) → Counted setup request k old now → slice_get now k ≡ Some x → slice_get old k ≡ Some x
@@ -228,7 +228,7 @@ pub post_next : (setup : SetupView) (request : ℕ) (covered : List ℕ) (k m : 
     → is_head setup request (node_at setup k) ≡ true → y.within ≡ x.within → y.loads ≡ x.loads → y.posted ≡ m → Posted setup request covered (k + 1) old (set now k y)
 post_next setup request covered k m old now x y h g c e w l t =
     pairs_set (PostedAt setup request covered k) (PostedAt setup request covered (k + 1)) old now k x y h g
-    (λ i p q ne r. (r.0, r.1, (λ lt n d. r.2 (omega (arith, lt, ne)) n d), (λ le. r.3 (omega (arith, le)))))
+    (λ i p q ne a r. (r.0, r.1, (λ lt n d. r.2 (omega (arith, lt, ne)) n d), (λ le. r.3 (omega (arith, le)))))
     (λ p a r. (w ∙ r.0, l ∙ r.1, (λ lt n d. rw e (t ∙ same_Some m n (sym c ∙ d))), (λ le. absurd (omega (arith, le)))))
 
 pub unposted : (setup : SetupView) (request : ℕ) (covered : List ℕ) (k : ℕ) (old now : List PosterIs) (x : PosterIs) → Posted setup request covered k old now → slice_get now k ≡ Some x → slice_get old k ≡ Some x

@@ -156,11 +156,9 @@ first_boxes setup turned b ps e n none = subst (AreBoxes setup turned turned) (s
 pub boxes_of : (setup : SetupView) (begin : Begin) (xs : List ℕ) (rows : List Row) (v old : FeederIs) → v ≡ old → IsFeeding setup begin xs rows old → AreBoxes setup v.begin_turned v.issued v.boxes
 boxes_of setup begin xs rows v old e law =
     let law' = subst (IsFeeding setup begin xs rows) (sym e) law in
-    subst (λ t. AreBoxes setup t v.issued v.boxes) (sym law'.turned_begun) law'.boxes
+    subst (λ t. AreBoxes setup t v.issued v.boxes) (sym law'.begun.turned_begun) law'.boxes
 
 pub turned_first : (setup : SetupView) (begin : Begin) (xs : List ℕ) (rows : List Row) (v old : FeederIs) → v ≡ old → IsFeeding setup begin xs rows old → v.begin_turned ≤ v.issued
 turned_first setup begin xs rows v old e law =
     let law' = subst (IsFeeding setup begin xs rows) (sym e) law in
-    let a = law'.turned_begun in
-    let b = law'.counted in
-    omega (arith, a, b)
+    omega (arith, law'.begun.turned_begun, law'.course.counted)

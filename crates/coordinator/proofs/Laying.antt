@@ -10,6 +10,7 @@ use Rattle.jobs.specs.Law.{IsLawful}
 use Rattle.jobs.specs.Nodes.{is_source_node}
 use Rattle.jobs.specs.JobView.{JobView}
 use Rattle.lane_core.specs.Steady.{Agrees, ComesTo, HasComeTo, MayFollow}
+use Rattle.lane_core.proofs.SteadyLemmas.{MayFollow-last}
 use Rattle.sink_journal.specs.declared.journal.Feed.{Feed}
 use Rattle.sink_journal.specs.declared.journal.Feed.TheVariants.{Fed}
 use Rattle.tuple_trace.specs.Counts.{Rose}
@@ -19,10 +20,8 @@ use Rattle.tuple_trace.specs.declared.tuple.Item.TheVariants.{Carry, Last, Mark}
 use Rattle.tuple_trace.specs.declared.tuple.Tuple.{Tuple}
 use Rattle.tuple_trace.specs.declared.tuple.Visit.{Visit}
 use Rattle.flow_model.specs.Agreement.{IsGraphOf}
-use Rattle.flow_model.specs.Begin.{Begin}
 use Rattle.flow_model.specs.Feeding.{fed_tuple}
 use Rattle.flow_model.specs.Lanes.{is_same_sender, lanes, senders}
-use Rattle.flow_model.specs.SetupView.{SetupView}
 use Rattle.flow_model.specs.declared.topology.Lane.{Lane}
 use Rattle.flow_model.proofs.ElementLemmas.{IsIn, all_of_at, in_filter, in_of_place}
 use Rattle.flow_model.proofs.JobLemmas.{unentered}
@@ -30,7 +29,7 @@ use Rattle.flow_model.proofs.LaneLemmas.{LaneIs, lane_is}
 use Rattle.flow_model.proofs.LaneLemmas.{sender_source}
 use Rattle.coordinator.specs.Views.{FeederIs}
 use Rattle.lane_core.specs.Lane.{EndpointIs}
-use Rattle.coordinator.specs.Feeding.{IsOut, fed_lanes}
+use Rattle.coordinator.specs.Feeding.{IsEndpointOf, fed_lanes}
 use Rattle.coordinator.specs.Steps.{Feeds}
 use Rattle.coordinator.specs.Turning.{IsLaneOfRow}
 use Rattle.coordinator.specs.declared.feeding.FeedTurn.TheVariants.{Idle, Moved}
@@ -63,18 +62,18 @@ agrees_new t (Carry u) e = tt
 agrees_new t (Mark r c) e = rw e (all_of_at _ [] (λ x i. absurd i))
 agrees_new t Last e = tt
 
-agrees_last : (x : Item) → Agrees x Last
-agrees_last (Carry u) = tt
-agrees_last (Mark r c) = tt
-agrees_last Last = tt
-
 -- a tuple that was nowhere yet may follow whatever was sent
-pub may_feed : (setup : SetupView) (begin : Begin) (rows : List Row) (graph : Graph) (feeds : List Feed) (ended place : ℕ) (lane : Lane) (out : EndpointIs) (t : Tuple) → IsLawful setup.job → IsGraphOf setup.job graph
-    → slice_get (fed_lanes setup.job) place ≡ Some lane → IsOut setup begin rows graph feeds ended place lane out → t.trace ≡ [] → MayFollow out.origin out.items (Carry t)
-may_feed setup begin rows graph feeds ended place lane out t law is g o e = (way, all_of_at (λ x. Agrees x (Carry t)) out.items (λ x i. agrees_new t x e))
+pub may_feed : (job : JobView) (graph : Graph) (place : ℕ) (lane : Lane) (out : EndpointIs)
+    (t : Tuple) → IsLawful job → IsGraphOf job graph → slice_get (fed_lanes job) place ≡ Some lane
+    → IsEndpointOf job graph lane out.number out.origin → t.trace ≡ []
+    → MayFollow out.origin out.items (Carry t)
+may_feed job graph place lane out t law is g o e =
+    (way, all_of_at (λ x. Agrees x (Carry t)) out.items (λ x i. agrees_new t x e))
   where
     none : (a : ℕ) → ¬ IsEdge graph a o.edge.from
-    none a h = unled setup.job o.edge.from law (from_source setup.job place out.number lane o.edge g o.numbered o.edge_is) a ((is a o.edge.from).0 h)
+    none a h =
+        let source = from_source job place out.number lane o.edge g o.numbered o.edge_is in
+        unled job o.edge.from law source a ((is a o.edge.from).0 h)
 
     along : (nodes : List ℕ) → nodes ≡ [] → ComesTo graph o.edge.from nodes
     along nodes e = rw e none
@@ -84,7 +83,7 @@ may_feed setup begin rows graph feeds ended place lane out t law is g o e = (way
 
 -- and so may the end
 pub may_end : (out : EndpointIs) → MayFollow out.origin out.items Last
-may_end out = (tt, all_of_at (λ x. Agrees x Last) out.items (λ x i. agrees_last x))
+may_end out = MayFollow-last out.origin out.items
 
 -- ---- the next state
 

@@ -2,9 +2,10 @@
 use Rattle.std.proofs.Common.{◌≡◌, ◌≢◌, ◌⊎◌, ◌∙◌, ◌<◌, ◌≤◌, ℕ, zero, suc, List, [], ◌∷◌, ◌++◌, inl, inr, refl, sym, subst, ap, arith, length, take, drop, set, Some, slice_get, append_assoc}
 use Rattle.std.proofs.lemmas.Option.{same_Some}
 
--- each element and the one that stands in its place now
-abbrev pub Pairs : {A : Type 0} → (ℕ → A → A → Type 0) → List A → List A → Type 0
-Pairs {A = A} R old now = (length now ≡ length old) × ((i : ℕ) → (p q : A) → slice_get old i ≡ Some p → slice_get now i ≡ Some q → R i p q)
+-- each element and the one that stands in its place in the other list
+abbrev pub Pairs : {A B : Type 0} → (ℕ → A → B → Type 0) → List A → List B → Type 0
+Pairs {A = A} {B = B} R old now =
+    (length now ≡ length old) × ((i : ℕ) (p : A) (q : B) → slice_get old i ≡ Some p → slice_get now i ≡ Some q → R i p q)
 
 pub get_set_same : {A : Type 0} (xs : List A) (k : ℕ) (x y : A) → slice_get xs k ≡ Some x → slice_get (set xs k y) k ≡ Some y
 get_set_same [] k x y h = absurd (cc)
@@ -30,17 +31,18 @@ here_or_not (suc k) zero = inr (λ e. absurd (omega (arith, e)))
 here_or_not (suc k) (suc i) = elim (here_or_not k i) [ inl e ↦ inl (ap suc e) | inr n ↦ inr (λ e. n (omega (arith, e))) ]
 
 -- one element changes
-pub pairs_set : {A : Type 0} (R S : ℕ → A → A → Type 0) (old now : List A) (k : ℕ) (x y : A) → Pairs R old now → slice_get now k ≡ Some x →
-    ((i : ℕ) (p q : A) → k ≢ i → R i p q → S i p q) → ((p : A) → slice_get old k ≡ Some p → R k p x → S k p y) → Pairs S old (set now k y)
-pairs_set {A = A} R S old now k x y h g other here = (length_set now k y ∙ h.0, λ i p q a b. go i p q a b (here_or_not k i))
+pub pairs_set : {A B : Type 0} (R S : ℕ → A → B → Type 0) (old : List A) (now : List B) (k : ℕ) (x y : B) → Pairs R old now → slice_get now k ≡ Some x
+    → ((i : ℕ) (p : A) (q : B) → k ≢ i → slice_get old i ≡ Some p → R i p q → S i p q)
+    → ((p : A) → slice_get old k ≡ Some p → R k p x → S k p y) → Pairs S old (set now k y)
+pairs_set {A = A} {B = B} R S old now k x y h g other here = (length_set now k y ∙ h.0, λ i p q a b. go i p q a b (here_or_not k i))
   where
-    go : (i : ℕ) (p q : A) → slice_get old i ≡ Some p → slice_get (set now k y) i ≡ Some q → (k ≡ i) ⊎ (k ≢ i) → S i p q
+    go : (i : ℕ) (p : A) (q : B) → slice_get old i ≡ Some p → slice_get (set now k y) i ≡ Some q → (k ≡ i) ⊎ (k ≢ i) → S i p q
     go i p q a b (inl e) =
         let b' : slice_get (set now k y) k ≡ Some q = subst (λ j. slice_get (set now k y) j ≡ Some q) (sym e) b in
         let same : y ≡ q = same_Some y q (sym (get_set_same now k x y g) ∙ b') in
         let a' : slice_get old k ≡ Some p = subst (λ j. slice_get old j ≡ Some p) (sym e) a in
         subst (λ j. S j p q) e (subst (λ z. S k p z) same (here p a' (h.1 k p x a' g)))
-    go i p q a b (inr n) = other i p q n (h.1 i p q a (sym (get_set_other now k i y n) ∙ b))
+    go i p q a b (inr n) = other i p q n a (h.1 i p q a (sym (get_set_other now k i y n) ∙ b))
 
 pub pairs_map : {A : Type 0} (R S : ℕ → A → A → Type 0) (old now : List A) → Pairs R old now → ((i : ℕ) (p q : A) → R i p q → S i p q) → Pairs S old now
 pairs_map R S old now h f = (h.0, λ i p q a b. f i p q (h.1 i p q a b))
@@ -74,5 +76,5 @@ drop_past (y ∷ xs) zero le = absurd (omega (arith, le))
 drop_past (y ∷ xs) (suc k) le = drop_past xs k (omega (arith, le))
 
 -- the feed so far and the entry that comes next
-pub one_more : {A : Type 0} (all xs rest more : List A) (x : A) → all ≡ xs ++ rest → rest ≡ x ∷ more → all ≡ (xs ++ x ∷ []) ++ more
-one_more all xs rest more x e f = e ∙ (ap (λ l. xs ++ l) f ∙ sym (append_assoc xs (x ∷ []) more))
+pub one_more : {A : Type 0} {all rest more : List A} {x : A} (xs : List A) → all ≡ xs ++ rest → rest ≡ x ∷ more → all ≡ (xs ++ x ∷ []) ++ more
+one_more {more = more} {x = x} xs e f = e ∙ (ap (λ l. xs ++ l) f ∙ sym (append_assoc xs (x ∷ []) more))

@@ -1,5 +1,5 @@
 -- What a step of a live feeder keeps.
-use Rattle.std.proofs.Common.{◌≡◌, ◌≢◌, ◌⊎◌, ◌∙◌, ◌+◌, ◌-◌, ◌<◌, ◌≤◌, ℕ, suc, List, [], ◌∷◌, ◌++◌, inl, inr, refl, sym, subst, ap, false, arith, length, min, Some, slice_get, append-nil}
+use Rattle.std.proofs.Common.{◌≡◌, ◌≢◌, ◌⊎◌, ◌∙◌, ◌+◌, ◌-◌, ◌<◌, ◌≤◌, ℕ, suc, List, [], ◌∷◌, ◌++◌, inl, inr, refl, sym, subst, ap, false, add-one, arith, length, min, Some, slice_get, append-nil}
 use Rattle.std.specs.Prelude.{Contains, replicate}
 use Rattle.std.proofs.lemmas.List.{length-append}
 use Rattle.sink_journal.specs.declared.journal.Feed.{Feed}
@@ -9,7 +9,7 @@ use Rattle.flow_model.specs.Begin.{Begin}
 use Rattle.flow_model.specs.SetupView.{SetupView}
 use Rattle.flow_model.specs.Requests.{afters}
 use Rattle.flow_model.proofs.ElementLemmas.{IsIn, contains_of_in, in_cases, in_of_contains}
-use Rattle.coordinator.specs.Boxes.{AreBoxes, LastAtLeast}
+use Rattle.coordinator.specs.Boxes.{LastAtLeast}
 use Rattle.coordinator.specs.Feeding.{IsFeeding, issue_rows, issued_in}
 use Rattle.coordinator.specs.Live.{AreHeard, Hears, IsFromFirst, fed_in, released_rows}
 use Rattle.coordinator.specs.Steps.{IsAhead, IsReached, Steps}
@@ -122,8 +122,7 @@ feeds_are : (setup : SetupView) (rows : List Row) (xs : List ℕ) (old new : Fee
     ⊎ ((old.stopped ≡ false) × IsReached xs (length rows) old.row old.issued × (new ≡ record old { feeds = old.feeds ++ Issued (suc old.issued) ∷ []; issued = suc old.issued; boxes = new.boxes }))
 feeds_are setup rows xs old new turn (inl h) = inl (λ r e. snoc_same old.feeds r r (sym e ∙ ap (λ f. f.feeds) h.1))
 feeds_are setup rows xs old new Moved (inr (inl h)) =
-    let one : old.issued + 1 ≡ suc old.issued = omega arith in
-    inr (h.0, h.1, h.2.3 ∙ ap (λ r. record old { feeds = old.feeds ++ Issued r ∷ []; issued = r; boxes = new.boxes }) one)
+    inr (h.0, h.1, rw add-one at h.2.3)
 feeds_are setup rows xs old new Idle (inr (inl h)) = inl (λ r e. snoc_same old.feeds r r (sym e ∙ ap (λ f. f.feeds) h.2.4))
 feeds_are setup rows xs old new Done (inr (inl h)) = absurd h.2
 feeds_are setup rows xs old new NoMemory (inr (inl h)) = inl (λ r e. snoc_same old.feeds r r (sym e ∙ ap (λ f. f.feeds) h.2))
@@ -146,22 +145,21 @@ module _ (setup : SetupView) (begin : Begin) (rows : List Row) (released : ℕ) 
     not_issued turn s n =
         subst (λ zs. IsFeeding setup begin zs rows new) (sym (plain_kept setup rows (plain setup rows old) old new turn s n)) (keeps setup begin (plain setup rows old) rows old new turn s law)
 
-    law_same : new ≡ old → IsFeeding setup begin (plain setup rows new) rows new
-    law_same e = subst (λ f. IsFeeding setup begin (plain setup rows f) rows f) (sym e) law
+    law_of : {f : FeederIs} → new ≡ f → IsFeeding setup begin (plain setup rows f) rows f
+        → IsFeeding setup begin (plain setup rows new) rows new
+    law_of e kept = subst (λ f. IsFeeding setup begin (plain setup rows f) rows f) (sym e) kept
 
     pub feeding_kept : (turn : FeedTurn) → Steps setup waiting rows old new turn → IsFeeding setup begin (plain setup rows new) rows new
-    feeding_kept turn (inl h) = law_same h.1
+    feeding_kept turn (inl h) = law_of h.1 law
     feeding_kept Moved (inr (inl h)) =
-        let one : old.issued + 1 ≡ suc old.issued = omega arith in
-        let b : AreBoxes setup begin.turned (suc old.issued) new.boxes = subst (λ t. AreBoxes setup t (suc old.issued) new.boxes) law.turned_begun (subst (λ r. AreBoxes setup old.begin_turned r new.boxes) one h.2.2) in
-        let e : new ≡ record old { feeds = old.feeds ++ Issued (suc old.issued) ∷ []; issued = suc old.issued; boxes = new.boxes } =
-        h.2.3 ∙ ap (λ r. record old { feeds = old.feeds ++ Issued r ∷ []; issued = r; boxes = new.boxes }) one in
-        subst (λ f. IsFeeding setup begin (plain setup rows f) rows f) (sym e) (law_due setup begin rows (plain setup rows old) old first law released h.0 h.1 new.boxes refl b)
+        law_of (rw add-one at h.2.3)
+        (law_due setup begin rows (plain setup rows old) old first law released h.0 h.1 new.boxes
+        refl (rw (add-one, law.begun.turned_begun) at h.2.2))
     feeding_kept Idle (inr (inl h)) =
-        let b : AreBoxes setup begin.turned old.issued new.boxes = subst (λ t. AreBoxes setup t old.issued new.boxes) law.turned_begun h.2.3 in
-        subst (λ f. IsFeeding setup begin (plain setup rows f) rows f) (sym h.2.4) (law_boxes setup begin (plain setup rows old) rows old new.boxes law b)
+        law_of h.2.4 (law_boxes setup begin (plain setup rows old) rows old new.boxes law
+        (rw law.begun.turned_begun at h.2.3))
     feeding_kept Done (inr (inl h)) = absurd h.2
-    feeding_kept NoMemory (inr (inl h)) = law_same h.2
+    feeding_kept NoMemory (inr (inl h)) = law_of h.2 law
     feeding_kept turn (inr (inr (inl h))) =
         let s : Steps setup (plain setup rows old) rows old new turn = inr (inr (inl (h.0, ahead_yet h.1, h.2, h.3))) in
         not_issued turn s (λ r e. not_both (plain setup rows old) (length rows) old.row old.issued (ahead_yet h.1) (issued_told setup (plain setup rows old) rows old new turn s r e).0)

@@ -1,7 +1,9 @@
 -- What the law of the feeder says in the words of the feed.
-use Rattle.std.proofs.Common.{◌≡◌, ◌⊎◌, ◌∙◌, ◌==◌, ◌↔◌, ◌+◌, ◌-◌, ◌<◌, ◌≤◌, ℕ, zero, suc, List, [], ◌∷◌, ◌++◌, inl, inr, refl, sym, ap, true, false, Bool, cond, nat_lt, arith, length, drop, min, Some, slice_get, append-nil}
+use Rattle.std.proofs.Common.{◌≡◌, ◌⊎◌, ◌∙◌, ◌==◌, ◌↔◌, ◌+◌, ◌-◌, ◌<◌, ◌≤◌, ℕ, zero, suc, List, [], ◌∷◌, ◌++◌, inl, inr, refl, sym, ap, true, false, Bool, cond, nat_lt, arith, length, drop, min, None, Some, slice_get, append-nil}
 use Rattle.std.specs.Prelude.{Contains, nat_le}
 use Rattle.std.proofs.lemmas.Option.{slice_get_within}
+use Rattle.flow_dag.specs.declared.graph.Graph.{Graph}
+use Rattle.jobs.specs.JobView.{JobView}
 use Rattle.sink_journal.specs.declared.journal.Feed.{Feed}
 use Rattle.sink_journal.specs.declared.journal.Feed.TheVariants.{Fed, Issued, Stopped}
 use Rattle.tuple_trace.specs.declared.row.Row.{Row}
@@ -17,7 +19,7 @@ use Rattle.flow_model.proofs.ElementLemmas.{IsIn, contains_of_in, in_of_contains
 use Rattle.flow_model.proofs.WorkerLemmas.{item_at}
 use Rattle.coordinator.specs.Views.{FeederIs}
 use Rattle.lane_core.specs.Lane.{EndpointIs}
-use Rattle.coordinator.specs.Feeding.{IsFeeder, IsFeeding, IsOut, fed_lanes}
+use Rattle.coordinator.specs.Feeding.{AreOuts, IsFeeder, IsFeeding, IsOut, fed_lanes}
 use Rattle.coordinator.specs.Due.{IsDue, IsReleased}
 use Rattle.coordinator.specs.Meaning.{HasSentAll, SendsTheFeed}
 use Rattle.coordinator.proofs.Keeping.{an_end}
@@ -76,7 +78,10 @@ stop_there (Stopped ∷ xs) lt = inl refl
 
 pub recorded : (setup : SetupView) (begin : Begin) (xs : List ℕ) (rows : List Row) (f : FeederIs) → IsFeeding setup begin xs rows f → (f.stopped ≡ true) ↔ Contains f.feeds Stopped
 recorded setup begin xs rows f law = (
-  (λ s. contains_of_in Stopped f.feeds (stop_there f.feeds (let one = feed_stops begin.row begin.turned xs (length rows) in let same : stops_in f.feeds ≡ stops_in (feed_from begin.row begin.turned xs (length rows)) = ap stops_in (law.stopped s) in omega (arith, one, same)))),
+  (λ s.
+      let one = feed_stops begin.row begin.turned xs (length rows) in
+      let some : 0 < stops_in f.feeds = omega (arith, one, ap stops_in (law.course.stopped s)) in
+      contains_of_in Stopped f.feeds (stop_there f.feeds some)),
   (λ i. go f.stopped refl (stop_counts f.feeds (in_of_contains Stopped f.feeds i))),
 )
   where
@@ -86,46 +91,62 @@ recorded setup begin xs rows f law = (
         let one = feed_stops begin.row begin.turned xs (length rows) in
         let rest = feed_stops f.row f.issued xs (length rows) in
         let all : stops_in (feed_from begin.row begin.turned xs (length rows)) ≡ stops_in f.feeds + stops_in (feed_from f.row f.issued xs (length rows)) =
-        ap stops_in (law.going e) ∙ stops_append f.feeds (feed_from f.row f.issued xs (length rows)) in
+        ap stops_in (law.course.going e) ∙ stops_append f.feeds (feed_from f.row f.issued xs (length rows)) in
         absurd (omega (arith, one, rest, all, lt))
 
 -- ---- what the ends have sent
 
--- what the law says of an end, with its lane
-at_place : (setup : SetupView) (begin : Begin) (xs : List ℕ) (rows : List Row) (f : FeederIs) (law : IsFeeding setup begin xs rows f) (k : ℕ) (out : EndpointIs) → slice_get f.outs k ≡ Some out
-    → (lane : Lane) × (slice_get (fed_lanes setup.job) k ≡ Some lane) × IsOut setup begin rows law.graph f.feeds f.ended k lane out
-at_place setup begin xs rows f law k out h =
-    let lt = slice_get_within f.outs k out h in
-    let there = item_at (fed_lanes setup.job) k (omega (arith, lt, law.outs_are)) in
-    (there.0, there.1, law.outs k there.0 out there.1 h)
+-- an endpoint, with its lane
+at_place : {job : JobView} {turned : ℕ} {rows : List Row} {graph : Graph} {feeds : List Feed}
+    {ended : ℕ} {outs : List EndpointIs} → AreOuts job turned rows graph feeds ended outs
+    → (k : ℕ) (out : EndpointIs) → slice_get outs k ≡ Some out
+    → (lane : Lane) × (slice_get (fed_lanes job) k ≡ Some lane)
+    × IsOut job turned rows graph feeds ended k lane out
+at_place {job = job} {outs = outs} are k out h =
+    let lt = slice_get_within outs k out h in
+    let there = item_at (fed_lanes job) k (omega (arith, lt, are.outs_are)) in
+    (there.0, there.1, are.outs k there.0 out there.1 h)
 
 pub sends : (setup : SetupView) (begin : Begin) (xs : List ℕ) (rows : List Row) (f : FeederIs) → IsFeeding setup begin xs rows f → SendsTheFeed setup begin rows f
 sends setup begin xs rows f law k out h =
-    let at = at_place setup begin xs rows f law k out h in
-    (at.0, at.2.numbered, pick at.0 (nat_lt k f.ended) at.2.sent_is)
+    let at = at_place law.lanes k out h in
+    (at.0, at.2.endpoint.numbered, pick at.0 (nat_lt k f.ended) at.2.sent_is)
   where
     pick : (lane : Lane) (b : Bool) → out.items ≡ fed setup.job rows begin.turned lane f.feeds ++ cond b (Last ∷ []) []
         → (out.items ≡ fed setup.job rows begin.turned lane f.feeds) ⊎ (out.items ≡ fed setup.job rows begin.turned lane f.feeds ++ Last ∷ [])
     pick lane true e = inr e
     pick lane false e = inl (e ∙ append-nil (fed setup.job rows begin.turned lane f.feeds))
 
+-- an endpoint after the stop
+at_stop : (setup : SetupView) (begin : Begin) (xs : List ℕ) (rows : List Row) (f : FeederIs)
+    → IsFeeding setup begin xs rows f → f.stopped ≡ true → (k : ℕ) (out : EndpointIs)
+    → slice_get f.outs k ≡ Some out → (lane : Lane) × (lane.sender ≡ None)
+    × (slice_get (lanes setup.job) out.number ≡ Some lane)
+    × (out.items ≡ fed setup.job rows begin.turned lane f.feeds ++ Last ∷ [])
+at_stop setup begin xs rows f law s k out h =
+    let at = at_place law.lanes k out h in
+    let within = slice_get_within f.outs k out h in
+    let last = an_end k f.ended (omega (arith, within, law.ended.all_ended s)) in (
+      at.0,
+      fed_by setup.job k at.0 at.1,
+      at.2.endpoint.numbered,
+      at.2.sent_is ∙ ap (λ l. fed setup.job rows begin.turned at.0 f.feeds ++ l) last,
+    )
+
 pub sent_all : (setup : SetupView) (begin : Begin) (xs : List ℕ) (rows : List Row) (f : FeederIs) → IsFeeding setup begin xs rows f → f.stopped ≡ true → HasSentAll setup begin rows f
 sent_all setup begin xs rows f law s k out h =
-    let at = at_place setup begin xs rows f law k out h in
-    let lt = slice_get_within f.outs k out h in
-    (at.0, at.2.numbered, at.2.sent_is ∙ ap (λ l. fed setup.job rows begin.turned at.0 f.feeds ++ l) (an_end k f.ended (omega (arith, lt, law.all_ended s))))
+    let at = at_stop setup begin xs rows f law s k out h in (at.0, at.2, at.3)
 
 pub puts : (setup : SetupView) (begin : Begin) (xs : List ℕ) (rows : List Row) (f : FeederIs) (ran : Ran) → IsFeeding setup begin xs rows f → f.stopped ≡ true → ran.setup ≡ setup → ran.feeds ≡ f.feeds
     → (k : ℕ) (out : EndpointIs) → slice_get f.outs k ≡ Some out → (lane : Lane) × (slice_get (lanes setup.job) out.number ≡ Some lane) × (put_by begin rows ran lane lane.sender ≡ Some out.items)
 puts setup begin xs rows f ran law s e fs k out h =
-    let at = at_place setup begin xs rows f law k out h in
-    let lt = slice_get_within f.outs k out h in
-    let sent : out.items ≡ fed setup.job rows begin.turned at.0 f.feeds ++ Last ∷ [] =
-    at.2.sent_is ∙ ap (λ l. fed setup.job rows begin.turned at.0 f.feeds ++ l) (an_end k f.ended (omega (arith, lt, law.all_ended s))) in (
-      at.0,
-      at.2.numbered,
-      ap (put_by begin rows ran at.0) (fed_by setup.job k at.0 at.1)
-          ∙ (ap (λ (t : SetupView). Some (fed t.job rows begin.turned at.0 ran.feeds ++ Last ∷ [])) e ∙ (ap (λ l. Some (fed setup.job rows begin.turned at.0 l ++ Last ∷ [])) fs ∙ ap Some (sym sent))),
+    let (lane, none, numbered, sent) = at_stop setup begin xs rows f law s k out h in (
+      lane,
+      numbered,
+      ap (put_by begin rows ran lane) none
+          ∙ (ap (λ (t : SetupView). Some (fed t.job rows begin.turned lane ran.feeds ++ Last ∷ [])) e
+          ∙ (ap (λ l. Some (fed setup.job rows begin.turned lane l ++ Last ∷ [])) fs
+          ∙ ap Some (sym sent))),
     )
 
 -- a request that is due comes next
@@ -133,7 +154,9 @@ pub next : (setup : SetupView) (begin : Begin) (rows : List Row) (f : FeederIs) 
     → (more : List Feed) × (feed_from begin.row begin.turned (afters setup.requests) (length rows) ≡ f.feeds ++ Issued (suc f.issued) ∷ more)
 next setup begin rows f law s (after, at, due) = (
   feed_from f.row (suc f.issued) (afters setup.requests) (length rows),
-  law.feeding.going s ∙ ap (λ l. f.feeds ++ l) (rest_issue (afters setup.requests) (length rows) f.row f.issued after at (reached due)),
+  law.feeding.course.going s
+      ∙ ap (λ l. f.feeds ++ l)
+      (rest_issue (afters setup.requests) (length rows) f.row f.issued after at (reached due)),
 )
   where
     reached : (IsReleased false f.loads (suc f.issued) × (min after (length rows) ≤ f.row)) ⊎ (length rows ≤ f.row) → min after (length rows) ≤ f.row

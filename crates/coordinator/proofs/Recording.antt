@@ -1,7 +1,6 @@
 -- A live feeder that has stopped: the rows that its requests waited for are those of its feed.
-use Rattle.std.proofs.Common.{◌≡◌, ◌∙◌, ◌+◌, ◌-◌, ◌==◌, ℕ, zero, suc, List, [], ◌∷◌, ◌++◌, refl, ap, true, false, Bool, cond, arith, length, min, take, append-nil}
+use Rattle.std.proofs.Common.{◌≡◌, ◌∙◌, ◌+◌, ◌-◌, ◌==◌, ℕ, zero, suc, List, [], ◌∷◌, ◌++◌, refl, ap, true, false, Bool, cond, arith, length, min, append-nil}
 use Rattle.std.specs.Prelude.{nat_le, replicate}
-use Rattle.std.proofs.lemmas.Bool.{le-leb}
 use Rattle.std.proofs.lemmas.List.{length-append}
 use Rattle.sink_journal.specs.declared.journal.Feed.TheVariants as feed
 use Rattle.tuple_trace.specs.declared.row.Row.{Row}
@@ -9,11 +8,12 @@ use Rattle.flow_model.specs.Begin.{Begin}
 use Rattle.flow_model.specs.Feeding.{feed_after, feed_from, issued_after, issued_at_first, issued_where}
 use Rattle.flow_model.specs.Requests.{afters}
 use Rattle.flow_model.specs.SetupView.{SetupView}
-use Rattle.flow_model.proofs.FreshLemmas.{count_at_first, count_next, count_to}
+use Rattle.flow_model.proofs.FreshLemmas.{count_all, count_at_first, count_next, count_to}
 use Rattle.coordinator.specs.Feeding.{IsFeeder, issue_rows, issued_in, waits}
 use Rattle.coordinator.specs.Views.{FeederIs}
 use Rattle.coordinator.proofs.LiveLemmas.{length_issue_rows, length_replicate}
 use Rattle.coordinator.proofs.Sents.{issued_append}
+use Rattle.coordinator.proofs.Waiting.{waits_from}
 
 -- ---- a whole feed issues every request
 
@@ -39,10 +39,6 @@ count_after xs r row rows (suc left) =
     count_after xs r (row + 1) rows left ∙ ap (λ k. count_to k rows xs) e in
     omega arith
 
-count_all : (rows : ℕ) (xs : List ℕ) → count_to rows rows xs ≡ length xs
-count_all rows [] = refl
-count_all rows (x ∷ xs) = rw (le-leb (min x rows) rows (omega arith)) (ap suc (count_all rows xs))
-
 feed_issues : (rows : ℕ) (xs : List ℕ) → issued_in (feed_from 0 0 xs rows) ≡ length xs
 feed_issues rows xs =
     let a : issued_in (issued_at_first 0 rows 1 xs ++ feed_after xs 1 0 rows (rows - 0)) ≡ issued_in (issued_at_first 0 rows 1 xs) + issued_in (feed_after xs 1 0 rows (rows - 0)) =
@@ -61,17 +57,17 @@ module _ (setup : SetupView) (begin : Begin) (rows : List Row) (f : FeederIs) (l
 
   waited_are : waited ≡ issue_rows 0 f.feeds ++ replicate (length setup.requests - f.issued) (length rows)
   waited_are =
-      ap (λ t. (take t (afters setup.requests) ++ issue_rows f.begin_row f.feeds) ++ replicate (length setup.requests - f.issued) (length rows)) (law.feeding.turned_begun ∙ unturned)
-      ∙ ap (λ r. issue_rows r f.feeds ++ replicate (length setup.requests - f.issued) (length rows)) (law.feeding.row_begun ∙ first)
+      waits_from setup rows f (law.feeding.begun.row_begun ∙ first)
+      (law.feeding.begun.turned_begun ∙ unturned)
 
   as_many : issued_in f.feeds ≡ length waited
   as_many =
-      ap issued_in (law.feeding.stopped stopped)
+      ap issued_in (law.feeding.course.stopped stopped)
       ∙ (ap (λ r. issued_in (feed_from r begin.turned waited (length rows))) first
       ∙ (ap (λ t. issued_in (feed_from 0 t waited (length rows))) unturned ∙ feed_issues (length rows) waited))
 
   issued_is : f.issued ≡ issued_in f.feeds
-  issued_is = (let a = law.feeding.counted in omega (arith, a, unturned))
+  issued_is = omega (arith, law.feeding.course.counted, unturned)
 
   none_left : length setup.requests - f.issued ≡ 0
   none_left =

@@ -1,6 +1,7 @@
 -- What of the feed is left.
 use Rattle.std.proofs.Common.{◌≡◌, ◌∙◌, ◌==◌, ◌+◌, ◌-◌, ◌<◌, ◌≤◌, ℕ, zero, suc, List, [], ◌∷◌, ◌++◌, refl, ap, true, false, cond, arith, length, drop, min, Option, Some, None, slice_get}
 use Rattle.std.specs.Prelude.{⊤, nat_le}
+use Rattle.std.proofs.lemmas.Bool.{le-leb, lt-leb}
 use Rattle.std.proofs.lemmas.Bool.Decides.{nat_tests}
 use Rattle.sink_journal.specs.declared.journal.Feed.TheVariants.{Fed, Issued, Stopped}
 use Rattle.versions.specs.Kept.{AreInOrder}
@@ -23,12 +24,6 @@ above_test a b p = grind (arith, nat_tests)
 
 below_test : (a b : ℕ) → a < b → (a == b) ≡ false
 below_test a b p = grind (arith, nat_tests)
-
-le_test : (a b : ℕ) → a ≤ b → nat_le a b ≡ true
-le_test a b p = grind (arith, nat_tests)
-
-not_le_test : (a b : ℕ) → b < a → nat_le a b ≡ false
-not_le_test a b p = grind (arith, nat_tests)
 
 -- all of these wait for a later row
 abbrev pub AreLater : ℕ → ℕ → List ℕ → Type 0
@@ -57,7 +52,7 @@ feed_skips after r row rows (suc left) xs le =
 -- the next request is issued next
 pub rest_issue : (xs : List ℕ) (rows row issued after : ℕ) → slice_get xs issued ≡ Some after → min after rows ≤ row → feed_from row issued xs rows ≡ Issued (suc issued) ∷ feed_from row (suc issued) xs rows
 rest_issue xs rows row issued after g le =
-    let e : nat_le (min after rows) row ≡ true = le_test (min after rows) row le in
+    let e : nat_le (min after rows) row ≡ true = le-leb (min after rows) row le in
     let d = drop_at xs issued after g in
     let one : issued + 1 ≡ suc issued = omega arith in
     let two : issued + 1 + 1 ≡ suc issued + 1 = omega arith in
@@ -71,7 +66,7 @@ rest_issue xs rows row issued after g le =
 none_issued : (row rows r : ℕ) (xs : List ℕ) → AreLater row rows xs → issued_at_first row rows r xs ≡ []
 none_issued row rows r [] h = refl
 none_issued row rows r (a ∷ xs) h =
-    let e : nat_le (min a rows) row ≡ false = not_le_test (min a rows) row h.0 in
+    let e : nat_le (min a rows) row ≡ false = lt-leb (min a rows) row h.0 in
     ap (λ b. cond b (Issued r ∷ issued_at_first row rows (r + 1) xs) (issued_at_first row rows (r + 1) xs)) e ∙ none_issued row rows (r + 1) xs h.1
 
 -- and those that wait for the next row are those for a row up to it

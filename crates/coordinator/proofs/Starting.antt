@@ -7,6 +7,7 @@ use Rattle.std.proofs.lemmas.Option.{same_Some}
 use Rattle.control_box.specs.Endpoints.{PosterIs}
 use Rattle.jobs.specs.JobView.{JobView}
 use Rattle.sink_journal.specs.declared.journal.Feed.{Feed}
+use Rattle.sink_journal.proofs.SmallLemmas.{get_mapped}
 use Rattle.tuple_trace.specs.declared.row.Row.{Row}
 use Rattle.flow_model.specs.Begin.{Begin}
 use Rattle.flow_model.specs.Lanes.{is_same_sender, lanes, lanes_that}
@@ -21,7 +22,7 @@ use Rattle.coordinator.specs.Starts.{AreNewOuts, AreUnused}
 use Rattle.flow_model.specs.NewEndpoint.{IsNewEndpoint}
 use Rattle.coordinator.specs.Boxes.{AreBoxes}
 use Rattle.coordinator.proofs.Issuing.{first_boxes}
-use Rattle.coordinator.proofs.Keeping.{no_end}
+use Rattle.coordinator.proofs.Keeping.{no_end, none_ended}
 
 abbrev pub new_feeder : List Feed → List EndpointIs → BoxesIs → List ℕ → ℕ → ℕ → FeederIs
 new_feeder feeds outs boxes places row turned = record {
@@ -54,21 +55,16 @@ map_get f [] k y h = absurd (cc)
 map_get f (x ∷ xs) zero y h = (x, refl, same_Some (f x) y h)
 map_get f (x ∷ xs) (suc k) y h = map_get f xs k y h
 
-get_map : {A B : Type 0} (f : A → B) (xs : List A) (k : ℕ) (x : A) → slice_get xs k ≡ Some x → slice_get (map f xs) k ≡ Some (f x)
-get_map f [] k x h = absurd (cc)
-get_map f (z ∷ xs) zero x h = ap Some (ap f (same_Some z x h))
-get_map f (z ∷ xs) (suc k) x h = get_map f xs k x h
-
 -- the end at a place has the number of the lane at that place
 number_at : (job : JobView) (outs : List EndpointIs) (k : ℕ) (lane : Lane) (out : EndpointIs) → map (λ (o : EndpointIs). o.number) outs ≡ lanes_that (λ (l : Lane). is_same_sender None l.sender) job
     → slice_get (fed_lanes job) k ≡ Some lane → slice_get outs k ≡ Some out → slice_get (lanes job) out.number ≡ Some lane
 number_at job outs k lane out are g h =
     let test : Lane → Bool = λ l. is_same_sender None l.sender in
     let among : List (ℕ × Lane) = filter (λ (p : ℕ × Lane). test p.1) (enumerate_from 0 (lanes job)) in
-    let a : slice_get (map (λ (p : ℕ × Lane). p.0) among) k ≡ Some out.number = ap (λ (l : List ℕ). slice_get l k) (sym are) ∙ get_map (λ (o : EndpointIs). o.number) outs k out h in
+    let a : slice_get (map (λ (p : ℕ × Lane). p.0) among) k ≡ Some out.number = ap (λ (l : List ℕ). slice_get l k) (sym are) ∙ get_mapped (λ (o : EndpointIs). o.number) outs k out h in
     let p = map_get (λ (p : ℕ × Lane). p.0) among k out.number a in
     let b : slice_get (map (λ (p : ℕ × Lane). p.1) among) k ≡ Some lane = ap (λ (l : List Lane). slice_get l k) (sym (numbered test 0 (lanes job))) ∙ g in
-    let q : p.0.1 ≡ lane = same_Some p.0.1 lane (sym (get_map (λ (p : ℕ × Lane). p.1) among k p.0 p.1) ∙ b) in
+    let q : p.0.1 ≡ lane = same_Some p.0.1 lane (sym (get_mapped (λ (p : ℕ × Lane). p.1) among k p.0 p.1) ∙ b) in
     let i = in_enumerate 0 (lanes job) p.0 (in_filter (λ (p : ℕ × Lane). test p.1) p.0 (enumerate_from 0 (lanes job)) (in_of_place p.0 among k p.1)).0 in
     let at : i.0 ≡ out.number = omega (arith, i.1, p.2) in
     subst (λ n. slice_get (lanes job) n ≡ Some lane) at (i.2 ∙ ap Some q)
@@ -83,31 +79,37 @@ as_many job outs are =
 law_first : (setup : SetupView) (begin : Begin) (xs : List ℕ) (rows : List Row) (outs : List EndpointIs) (b : BoxesIs) (places : List ℕ) → places ≡ places_of setup.job → AreRising 0 xs → begin.turned ≤ length xs → AreNewOuts setup.job outs → AreBoxes setup begin.turned begin.turned b
     → IsFeeding setup begin xs rows (new_feeder [] outs b places begin.row begin.turned)
 law_first setup begin xs rows outs b places at o le are boxes = record {
-  row_begun = refl;
-  turned_begun = refl;
-  graph = are.graph;
-  graph_is = are.graph_is;
-  in_order = o;
-  issued_within = le;
-  counted = omega arith;
-  going = λ _. refl;
-  stopped = λ t. absurd (cc);
-  places_are = at;
-  outs_are = as_many setup.job outs are.numbers_are;
-  outs = λ k lane out g h.
-      let new : IsNewEndpoint setup.job are.graph out = are.new k out h in
-      let n : slice_get (lanes setup.job) out.number ≡ Some lane = number_at setup.job outs k lane out are.numbers_are g h in
-      let same : new.lane ≡ lane = same_Some new.lane lane (sym new.numbered ∙ n) in
-      record {
-        edge = new.edge;
-        numbered = n;
-        edge_is = ap (λ (l : Lane). slice_get setup.job.edges l.edge) (sym same) ∙ new.edge_is;
-        origin_is = new.origin_is;
-        sent_is = new.empty ∙ sym (no_end k 0 (omega arith));
-      };
-  ended_within = omega arith;
-  ending = λ p. absurd (omega (arith, p));
-  all_ended = λ t. absurd (cc);
+  begun = record {
+    row_begun = refl;
+    turned_begun = refl;
+    graph = are.graph;
+    graph_is = are.graph_is;
+    places_are = at;
+  };
+  course = record {
+    in_order = o;
+    issued_within = le;
+    counted = omega arith;
+    going = λ _. refl;
+    stopped = λ t. absurd (cc);
+  };
+  lanes = record {
+    outs_are = as_many setup.job outs are.numbers_are;
+    outs = λ k lane out g h.
+        let new : IsNewEndpoint setup.job are.graph out = are.new k out h in
+        let n = number_at setup.job outs k lane out are.numbers_are g h in
+        let same : new.lane ≡ lane = same_Some new.lane lane (sym new.numbered ∙ n) in
+        record {
+          endpoint = record {
+            edge = new.edge;
+            numbered = n;
+            edge_is = ap (λ (l : Lane). slice_get setup.job.edges l.edge) (sym same) ∙ new.edge_is;
+            origin_is = new.origin_is;
+          };
+          sent_is = new.empty ∙ sym (no_end k 0 (omega arith));
+        };
+  };
+  ended = none_ended (omega arith) refl;
   boxes = boxes;
   held = λ t row h g. absurd (cc);
 }

@@ -6,7 +6,6 @@ use Rattle.std.proofs.lemmas.List.{length-map}
 use Rattle.sink_journal.specs.declared.journal.Feed.TheVariants.{Fed, Issued, Stopped}
 use Rattle.tuple_trace.specs.declared.row.Row.{Row}
 use Rattle.tuple_trace.specs.declared.tuple.Item.TheVariants.{Last}
-use Rattle.versions.specs.declared.request.Request.{Request}
 use Rattle.flow_model.specs.Begin.{Begin}
 use Rattle.flow_model.specs.SetupView.{SetupView}
 use Rattle.flow_model.specs.Requests.{afters}
@@ -261,7 +260,9 @@ ended_told setup xs rows old new NoMemory (inr (inr (inr h))) lt = absurd (not_m
 pub is_feeder : (setup : SetupView) (begin : Begin) (rows : List Row) (f : FeederIs) → IsFeeding setup begin (afters setup.requests) rows f → IsFeeder false setup begin rows f
 is_feeder setup begin rows f law = record {
   feeding = law;
-  issued_exist = (let le = law.issued_within in let e = length-map setup.requests (λ (request : Request). request.after) in omega (arith, le, e));
+  issued_exist =
+      let e : length (afters setup.requests) ≡ length setup.requests = length-map setup.requests _ in
+      omega (arith, law.course.issued_within, e);
   not_before = λ k a b g h. (let e = same_Some a b (sym g ∙ h) in omega (arith, e));
   released = λ e. absurd (cc);
 }

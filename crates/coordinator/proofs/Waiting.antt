@@ -1,5 +1,5 @@
 -- The rows that the requests of a live feeder wait for.
-use Rattle.std.proofs.Common.{◌≡◌, ◌∙◌, ◌+◌, ◌-◌, ◌<◌, ◌≤◌, ℕ, suc, List, [], ◌∷◌, ◌++◌, inl, inr, refl, sym, subst, ap, true, false, arith, length, min, take, Some, slice_get, append_assoc}
+use Rattle.std.proofs.Common.{◌≡◌, ◌∙◌, ◌+◌, ◌-◌, ◌<◌, ◌≤◌, ℕ, suc, List, [], ◌∷◌, ◌++◌, inl, inr, refl, sym, subst, ap, true, false, arith, length, min, Some, slice_get, append_assoc}
 use Rattle.std.specs.Prelude.{replicate}
 use Rattle.std.proofs.lemmas.List.{length-append, length-map}
 use Rattle.std.proofs.lemmas.Option.{same_Some, slice_get_within}
@@ -11,11 +11,11 @@ use Rattle.flow_model.specs.Feeding.{feed_from}
 use Rattle.flow_model.specs.SetupView.{SetupView}
 use Rattle.flow_model.specs.Requests.{afters}
 use Rattle.coordinator.specs.Boxes.{AreBoxes}
-use Rattle.coordinator.specs.Feeding.{AreRising, IsFeeding, issue_rows, issued_in, waits}
+use Rattle.coordinator.specs.Feeding.{AreEnded, AreRising, IsFeeding, issue_rows, issued_in, waits}
 use Rattle.coordinator.specs.Live.{IsFromFirst, fed_in, released_rows}
 use Rattle.coordinator.specs.Steps.{IsAhead, IsReached}
 use Rattle.coordinator.specs.Views.{BoxesIs, FeederIs}
-use Rattle.coordinator.proofs.Keeping.{law_issue}
+use Rattle.coordinator.proofs.Keeping.{law_beside, law_issue}
 use Rattle.coordinator.proofs.ListLemmas.{also_in}
 use Rattle.coordinator.proofs.LiveLemmas.{at_released, at_swapped, at_waiting, fed_within, feed_of_rows, get_past, issue_rows-append, length_issue_rows, length_released, length_replicate, rising_last, rising_rest}
 
@@ -23,69 +23,35 @@ use Rattle.coordinator.proofs.LiveLemmas.{at_released, at_swapped, at_waiting, f
 abbrev pub plain : SetupView → List Row → FeederIs → List ℕ
 plain setup rows f = issue_rows 0 f.feeds ++ replicate (length setup.requests - f.issued) (length rows)
 
+pub waits_from : (setup : SetupView) (rows : List Row) (f : FeederIs) → f.begin_row ≡ 0
+    → f.begin_turned ≡ 0 → waits true setup (length rows) f ≡ plain setup rows f
+waits_from setup rows f no_row none_turned = rw (none_turned, no_row) refl
+
 -- ---- the law of a feeder that is seen with other loads, and of one whose requests wait for other rows
 
 module _ (setup : SetupView) (begin : Begin) (rows : List Row) where
   pub law_loads : (xs : List ℕ) (f : FeederIs) (loads : List ℕ) → IsFeeding setup begin xs rows f → IsFeeding setup begin xs rows (record f { loads = loads })
-  law_loads xs f loads law = record {
-    row_begun = law.row_begun;
-    turned_begun = law.turned_begun;
-    graph = law.graph;
-    graph_is = law.graph_is;
-    in_order = law.in_order;
-    issued_within = law.issued_within;
-    counted = law.counted;
-    going = law.going;
-    stopped = law.stopped;
-    places_are = law.places_are;
-    outs_are = law.outs_are;
-    outs = law.outs;
-    ended_within = law.ended_within;
-    ending = law.ending;
-    all_ended = law.all_ended;
-    boxes = law.boxes;
-    held = law.held;
-  }
+  law_loads xs f loads law =
+      law_beside setup begin xs rows f f.boxes f.held loads law law.boxes law.held
 
   pub law_unloads : (xs : List ℕ) (f : FeederIs) (loads : List ℕ) → IsFeeding setup begin xs rows (record f { loads = loads }) → IsFeeding setup begin xs rows f
-  law_unloads xs f loads law = record {
-    row_begun = law.row_begun;
-    turned_begun = law.turned_begun;
-    graph = law.graph;
-    graph_is = law.graph_is;
-    in_order = law.in_order;
-    issued_within = law.issued_within;
-    counted = law.counted;
-    going = law.going;
-    stopped = law.stopped;
-    places_are = law.places_are;
-    outs_are = law.outs_are;
-    outs = law.outs;
-    ended_within = law.ended_within;
-    ending = law.ending;
-    all_ended = law.all_ended;
-    boxes = law.boxes;
-    held = law.held;
-  }
+  law_unloads xs f loads law = law_loads xs (record f { loads = loads }) f.loads law
 
   law_rows : (xs ys : List ℕ) (f : FeederIs) → IsFeeding setup begin xs rows f → f.stopped ≡ false → AreRising 0 ys → length ys ≡ length xs
       → feed_from begin.row begin.turned ys (length rows) ≡ f.feeds ++ feed_from f.row f.issued ys (length rows) → IsFeeding setup begin ys rows f
   law_rows xs ys f law s rise as_many going = record {
-    row_begun = law.row_begun;
-    turned_begun = law.turned_begun;
-    graph = law.graph;
-    graph_is = law.graph_is;
-    in_order = rise;
-    issued_within = (let le = law.issued_within in omega (arith, le, as_many));
-    counted = law.counted;
-    going = λ _. going;
-    stopped = λ t. absurd (cc);
-    places_are = law.places_are;
-    outs_are = law.outs_are;
-    outs = law.outs;
-    ended_within = law.ended_within;
-    ending = λ p. ((law.ending p).0, (law.ending p).1 ∙ sym as_many);
-    all_ended = law.all_ended;
+    begun = law.begun;
+    course = record {
+      in_order = rise;
+      issued_within = omega (arith, law.course.issued_within, as_many);
+      counted = law.course.counted;
+      going = λ _. going;
+      stopped = λ t. absurd (cc);
+    };
+    lanes = law.lanes;
+    ended =
+        subst (λ n. AreEnded n (length rows) (length f.outs) f.row f.issued f.ended f.stopped)
+        (sym as_many) law.ended;
     boxes = law.boxes;
     held = law.held;
   }
@@ -93,31 +59,28 @@ module _ (setup : SetupView) (begin : Begin) (rows : List Row) where
   -- ---- the rows that the requests wait for, at a feeder that began at the first row
 
   pub waits_plain : (f : FeederIs) → IsFromFirst f → waits true setup (length rows) f ≡ plain setup rows f
-  waits_plain f first =
-      ap (λ t. (take t (afters setup.requests) ++ issue_rows f.begin_row f.feeds) ++ replicate (length setup.requests - f.issued) (length rows)) first.turned_first
-      ∙ ap (λ r. issue_rows r f.feeds ++ replicate (length setup.requests - f.issued) (length rows)) first.row_first
+  waits_plain f first = waits_from setup rows f first.row_first first.turned_first
 
   as_many_afters : length (afters setup.requests) ≡ length setup.requests
   as_many_afters = length-map setup.requests (λ (request : Request). request.after)
 
   module _ (xs : List ℕ) (f : FeederIs) (first : IsFromFirst f) (law : IsFeeding setup begin xs rows f) where
     row_none : begin.row ≡ 0
-    row_none = sym law.row_begun ∙ first.row_first
+    row_none = sym law.begun.row_begun ∙ first.row_first
 
     turned_none : begin.turned ≡ 0
-    turned_none = sym law.turned_begun ∙ first.turned_first
+    turned_none = sym law.begun.turned_begun ∙ first.turned_first
 
     pub issued_is : f.issued ≡ issued_in f.feeds
-    issued_is = (let a = law.counted in let b = turned_none in omega (arith, a, b))
+    issued_is = omega (arith, law.course.counted, turned_none)
 
     length_plain : length (issue_rows 0 f.feeds) ≡ f.issued
     length_plain = length_issue_rows 0 f.feeds ∙ sym issued_is
 
     rows_within : f.stopped ≡ false → f.row ≤ length rows
     rows_within s =
-        let a : feed_from 0 begin.turned xs (length rows) ≡ f.feeds ++ feed_from f.row f.issued xs (length rows) = subst (λ r. feed_from r begin.turned xs (length rows) ≡ f.feeds ++ feed_from f.row f.issued xs (length rows)) row_none (law.going s) in
-        let b : feed_from 0 0 xs (length rows) ≡ f.feeds ++ feed_from f.row f.issued xs (length rows) = subst (λ t. feed_from 0 t xs (length rows) ≡ f.feeds ++ feed_from f.row f.issued xs (length rows)) turned_none a in
-        fed_within f.issued (length rows) xs f.feeds f.row first.row_is b
+        fed_within f.issued (length rows) xs f.feeds f.row first.row_is
+        (rw (row_none, turned_none) at (law.course.going s))
 
     -- the feed so far goes on as well if the later requests wait for other rows
     goes_on : (rest : List ℕ) → f.stopped ≡ false → AreRising f.row rest
@@ -129,11 +92,7 @@ module _ (setup : SetupView) (begin : Begin) (rows : List Row) where
         let issued : 0 + issued_in f.feeds ≡ f.issued = (let e = issued_is in omega (arith, e)) in
         let within : 0 + fed_in f.feeds ≤ n = (let le = rows_within s in omega (arith, le, row)) in
         let all = feed_of_rows 0 0 n f.feeds [] rest (first.numbered s) within refl (subst (λ r. AreRising r rest) (sym row) rise) in
-        ap (λ r. feed_from r begin.turned ys n) row_none
-        ∙ (ap (λ t. feed_from 0 t ys n) turned_none
-        ∙ (all
-        ∙ (ap (λ r. f.feeds ++ feed_from r (0 + issued_in f.feeds) ys n) row
-        ∙ ap (λ i. f.feeds ++ feed_from f.row i ys n) issued)))
+        rw (row_none, turned_none) (rw (row, issued) at all)
 
     -- ---- a request that is due
 

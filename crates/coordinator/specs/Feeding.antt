@@ -1,7 +1,7 @@
 -- The law of the feeder.
 use Rattle.std.specs.Prelude.{◌≡◌, ℕ, suc, ◌+◌, ◌-◌, ◌<◌, ◌≤◌, ⊤, Bool, true, false, Contains, List}
-use Rattle.std.specs.Prelude.{[], ◌∷◌, ◌++◌, filter, length, min, nat_lt, None, Some, replicate}
-use Rattle.std.specs.Prelude.{slice_get, take, if◌then◌else◌}
+use Rattle.std.specs.Prelude.{[], ◌∷◌, ◌++◌, filter, length, min, nat_lt, None, Some, Option}
+use Rattle.std.specs.Prelude.{replicate, slice_get, take, if◌then◌else◌}
 use Rattle.flow_dag.specs.declared.edge.Edge.{Edge}
 use Rattle.flow_dag.specs.declared.graph.Graph.{Graph}
 use Rattle.jobs.specs.JobView.{JobView}
@@ -21,6 +21,7 @@ use Rattle.flow_model.specs.Requests.{afters}
 use Rattle.coordinator.specs.Boxes.{AreBoxes, LastAtLeast}
 use Rattle.coordinator.specs.Views.{FeederIs}
 use Rattle.lane_core.specs.Lane.{EndpointIs}
+use Rattle.lane_core.specs.declared.form.Origin.{Origin}
 
 -- the lanes on which the feeder sends: those out of the sources, in the order of their numbers
 abbrev pub fed_lanes : JobView → List Lane
@@ -68,47 +69,73 @@ waits true setup rows f =
 abbrev pub end_at : ℕ → ℕ → List Item
 end_at place ended = if nat_lt place ended then item.Last ∷ [] else []
 
+-- An endpoint with this number and origin is that of the lane, which begins at the origin's node.
+pub record IsEndpointOf (job : JobView) (graph : Graph) (lane : Lane) (number : ℕ)
+    (origin : Origin) : Type 0 where
+  pub edge : Edge
+  pub numbered : slice_get (lanes job) number ≡ Some lane
+  pub edge_is : slice_get job.edges lane.edge ≡ Some edge
+  pub origin_is : origin ≡ record { graph = graph; from = edge.from }
+
 -- The endpoint of a lane of a source: it begins at the source, and has sent what the feed so far
 -- puts there, followed by the end of the stream if the lane was ended.
-pub record IsOut (setup : SetupView) (begin : Begin) (rows : List Row) (graph : Graph)
+pub record IsOut (job : JobView) (turned : ℕ) (rows : List Row) (graph : Graph)
     (feeds : List Feed) (ended place : ℕ) (lane : Lane) (out : EndpointIs) : Type 0 where
-  pub edge : Edge
-  pub numbered : slice_get (lanes setup.job) out.number ≡ Some lane
-  pub edge_is : slice_get setup.job.edges lane.edge ≡ Some edge
-  pub origin_is : out.origin ≡ record { graph = graph; from = edge.from }
-  pub sent_is : out.items ≡ fed setup.job rows begin.turned lane feeds ++ end_at place ended
+  pub endpoint : IsEndpointOf job graph lane out.number out.origin
+  pub sent_is : out.items ≡ fed job rows turned lane feeds ++ end_at place ended
+
+-- What no turn changes: where the feeder began, the graph of the job and the places of its lanes.
+pub record HasBegun (job : JobView) (begin : Begin) (row turned : ℕ) (places : List ℕ)
+    : Type 0 where
+  pub row_begun : row ≡ begin.row
+  pub turned_begun : turned ≡ begin.turned
+  pub graph : Graph
+  pub graph_is : IsGraphOf job graph
+  pub places_are : places ≡ places_of job
+
+-- The feed so far is the front of the feed from the beginning, and all of it after the stop.
+pub record IsOnCourse (begin : Begin) (afters : List ℕ) (rows : ℕ) (feeds : List Feed)
+    (row issued : ℕ) (has_stopped : Bool) : Type 0 where
+  pub in_order : AreRising 0 afters
+  pub issued_within : issued ≤ length afters
+  pub counted : issued ≡ begin.turned + issued_in feeds
+  -- the feed so far, followed by the feed from here on, is the feed from the beginning
+  pub going :
+      has_stopped ≡ false
+      → feed_from begin.row begin.turned afters rows ≡ feeds ++ feed_from row issued afters rows
+  pub stopped : has_stopped ≡ true → feeds ≡ feed_from begin.row begin.turned afters rows
+
+-- The endpoints are those of the lanes of the sources, in the order of these lanes.
+pub record AreOuts (job : JobView) (turned : ℕ) (rows : List Row) (graph : Graph)
+    (feeds : List Feed) (ended : ℕ) (endpoints : List EndpointIs) : Type 0 where
+  pub outs_are : length endpoints ≡ length (fed_lanes job)
+  pub outs :
+      (place : ℕ) (lane : Lane) (out : EndpointIs)
+      → slice_get (fed_lanes job) place ≡ Some lane → slice_get endpoints place ≡ Some out
+      → IsOut job turned rows graph feeds ended place lane out
+
+-- A lane is ended only after all rows and requests, and each is ended before the stop.
+pub record AreEnded (requests rows outs row issued ended : ℕ) (stopped : Bool) : Type 0 where
+  pub ended_within : ended ≤ outs
+  pub ending : 0 < ended → (rows ≤ row) × (issued ≡ requests)
+  pub all_ended : stopped ≡ true → ended ≡ outs
+
+-- a tuple that is held is that of the next row
+abbrev pub IsNextHeld : List Row → ℕ → ℕ → Option Tuple → Type 0
+IsNextHeld rows row issued held =
+    (t : Tuple) (next : Row) → held ≡ Some t → slice_get rows row ≡ Some next
+    → record t { issued = issued } ≡ fed_tuple issued next
 
 -- The law of a feeder from a beginning on, if the requests wait for these rows.
 pub record IsFeeding (setup : SetupView) (begin : Begin) (afters : List ℕ) (rows : List Row)
     (f : FeederIs) : Type 0 where
-  pub row_begun : f.begin_row ≡ begin.row
-  pub turned_begun : f.begin_turned ≡ begin.turned
-  pub graph : Graph
-  pub graph_is : IsGraphOf setup.job graph
-  pub in_order : AreRising 0 afters
-  pub issued_within : f.issued ≤ length afters
-  pub counted : f.issued ≡ begin.turned + issued_in f.feeds
-  -- the feed so far, followed by the feed from here on, is the feed from the beginning
-  pub going :
-      f.stopped ≡ false
-      → feed_from begin.row begin.turned afters (length rows)
-      ≡ f.feeds ++ feed_from f.row f.issued afters (length rows)
-  pub stopped : f.stopped ≡ true → f.feeds ≡ feed_from begin.row begin.turned afters (length rows)
-  pub places_are : f.places ≡ places_of setup.job
-  pub outs_are : length f.outs ≡ length (fed_lanes setup.job)
-  pub outs :
-      (place : ℕ) (lane : Lane) (out : EndpointIs)
-      → slice_get (fed_lanes setup.job) place ≡ Some lane → slice_get f.outs place ≡ Some out
-      → IsOut setup begin rows graph f.feeds f.ended place lane out
-  -- a lane is ended only if all rows are fed and all requests issued, and each is once it stopped
-  pub ended_within : f.ended ≤ length f.outs
-  pub ending : 0 < f.ended → (length rows ≤ f.row) × (f.issued ≡ length afters)
-  pub all_ended : f.stopped ≡ true → f.ended ≡ length f.outs
+  pub begun : HasBegun setup.job begin f.begin_row f.begin_turned f.places
+  pub course : IsOnCourse begin afters (length rows) f.feeds f.row f.issued f.stopped
+  pub lanes : AreOuts setup.job begin.turned rows begun.graph f.feeds f.ended f.outs
+  pub ended :
+      AreEnded (length afters) (length rows) (length f.outs) f.row f.issued f.ended f.stopped
   pub boxes : AreBoxes setup begin.turned f.issued f.boxes
-  -- a tuple that is held is that of the next row
-  pub held :
-      (t : Tuple) (row : Row) → f.held ≡ Some t → slice_get rows f.row ≡ Some row
-      → record t { issued = f.issued } ≡ fed_tuple f.issued row
+  pub held : IsNextHeld rows f.row f.issued f.held
 
 -- The law of a feeder, live or not: it holds for the rows that its requests wait for; it has issued
 -- requests of the setup only; none of the rows is before the row that the setup asks for; and while

@@ -46,7 +46,7 @@ pub fn place_of(setup: &Setup, places: &[usize], source: u32, tuple: &Tuple) -> 
 {
     let feeder = WorkerAt {
         node: source,
-        index: 0,
+        place: 0,
     };
     match setup.topology.route(&setup.job, feeder, 0, tuple) {
         Some(number) => places[number as usize],

@@ -20,7 +20,6 @@ use Rattle.flow_worker.specs.Worker.{IsWorker, WorkerIs, lane_numbers_in}
 use Rattle.std.proofs.Common.{append-nil, append_assoc, length-append}
 use Rattle.std.proofs.lemmas.List.{length-map, map-append}
 use Rattle.flow_model.proofs.PlaceLemmas.{append_get}
-use Rattle.flow_worker.proofs.Pairs.{length_mapped}
 use Rattle.flow_crew.specs.Sides.{SideIs, numbers_of, worker_side}
 
 -- an item of a list with one item more: it was there, or it is the last one
@@ -54,7 +53,7 @@ one_receiver job n v w a b =
 -- a worker has the number of the worker into which its lanes lead
 pub has_number : (setup : SetupView) (begin : Begin) (v : WorkerIs) (ends : List EndpointIs) (w : ℕ) → IsWorker setup begin v → map endpoint_in v.ins ≡ ends → numbers_of ends ≡ lanes_in setup.job w → v.number ≡ w
 has_number setup begin v ends w law same are =
-    go v.ins (law.placed.some_in) (sym (same_in v.ins) ∙ (ap numbers_of same ∙ are)) law.placed.ins_are
+    go v.ins (law.placed.ins.some) (sym (same_in v.ins) ∙ (ap numbers_of same ∙ are)) law.placed.ins.are
   where
     go : (ins : List LaneInIs) → v.next < length ins → lane_numbers_in ins ≡ lanes_in setup.job w → lane_numbers_in ins ≡ lanes_in setup.job v.number → v.number ≡ w
     go [] lt a b = absurd (omega (arith, lt))
@@ -64,7 +63,7 @@ has_number setup begin v ends w law same are =
 pub next_side : (workers : List WorkerIs) (all its rest : List SideIs) (side : SideIs) → map worker_side workers ++ its ≡ all → its ≡ side ∷ rest
     → (length workers < length all) × (slice_get all (length workers) ≡ Some side)
 next_side workers all its rest side are next =
-    let long = length_mapped worker_side workers in
+    let long = length-map workers worker_side in
     let sum = length-append (map worker_side workers) its in
     let more = ap (λ (l : List SideIs). length l) next in
     let whole = ap (λ (l : List SideIs). length l) are in
@@ -89,7 +88,7 @@ side_is worker side a b = λ i. record { ins = a i; outs = b i }
 -- all sides are used
 pub all_made : (workers : List WorkerIs) (all its : List SideIs) → map worker_side workers ++ its ≡ all → length its ≡ 0 → (length workers ≡ length all) × (map worker_side workers ≡ all)
 all_made workers all [] are none =
-    let long = length_mapped worker_side workers in
+    let long = length-map workers worker_side in
     let same : map worker_side workers ≡ all = sym (append-nil (map worker_side workers)) ∙ are in
     let whole = ap (λ (l : List SideIs). length l) same in
     (omega (arith, long, whole), same)

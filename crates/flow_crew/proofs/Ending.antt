@@ -1,7 +1,7 @@
 -- What finished workers, a feeder that has stopped and settled lanes leave is a run.
 use Rattle.std.proofs.Common.{◌≡◌, ◌∙◌, ◌<◌, ℕ, List, [], ◌++◌, refl, sym, ap, subst, arith, length, map, Option, Some, None, slice_get}
 use Rattle.std.specs.Prelude.{IfSome}
-use Rattle.std.proofs.lemmas.List.{append-nil}
+use Rattle.std.proofs.lemmas.List.{append-nil, length-map}
 use Rattle.std.proofs.lemmas.Option.{same_Some}
 use Rattle.jobs.specs.JobView.{JobView}
 use Rattle.keyed_state.specs.Counts.{Counts}
@@ -24,7 +24,7 @@ use Rattle.lane_core.specs.Lane.{EndpointIs}
 use Rattle.flow_worker.specs.Turning.{IsDone}
 use Rattle.flow_worker.specs.Worker.{IsWorker, Sends, ShowsTaken, WorkerIs}
 use Rattle.flow_model.proofs.PlaceLemmas.{map_place}
-use Rattle.flow_worker.proofs.Pairs.{get_mapped, length_mapped}
+use Rattle.sink_journal.proofs.SmallLemmas.{get_mapped}
 use Rattle.coordinator.specs.Conservation.{AreFinished}
 use Rattle.coordinator.proofs.Meaning.{puts}
 use Rattle.coordinator.proofs.Conserving.{lane_conserved}
@@ -70,7 +70,7 @@ module _ (setup : SetupView) (begin : Begin) (rows : List Row) (workers : List W
         record {
           there = g;
           law = law;
-          who_is = ap (slice_get (workers_in setup.job)) (sym number) ∙ law.placed.who_is;
+          who_is = ap (slice_get (workers_in setup.job)) (sym number) ∙ law.placed.stands.who_is;
           same_who = refl;
           begun_is = ap (slice_get begin.states) (sym number) ∙ law.begun_is;
           same_counts = refl;
@@ -101,7 +101,7 @@ module _ (setup : SetupView) (begin : Begin) (rows : List Row) (workers : List W
       let (worker, there, e) = of_journal w journal g in
       let (p, counts, is) = worker_at w worker there in
       let same : is.law.who ≡ who = is.same_who ∙ same_Some p who (sym is.who_is ∙ at) in
-      subst (IsFinishedFrom setup begin who) (sym e) (subst (λ (q : WorkerOf). IsFinishedFrom setup begin q worker.journal) same (is.law.finished is.done.0))
+      subst (IsFinishedFrom setup begin who) (sym e) (subst (λ (q : WorkerOf). IsFinishedFrom setup begin q worker.journal) same (is.law.closing.finished is.done.0))
 
   all_worked : (w : ℕ) (who : WorkerOf) (counts : Counts) (journal : List Entry) (state : Counts) → slice_get (workers_in setup.job) w ≡ Some who → slice_get begin.states w ≡ Some counts → slice_get ran.journals w ≡ Some journal → slice_get ran.states w ≡ Some state
       → IsWorked setup begin who counts journal state
@@ -114,7 +114,7 @@ module _ (setup : SetupView) (begin : Begin) (rows : List Row) (workers : List W
         finished = all_finished w who journal at g;
         state_is =
             of_state w worker state there h
-            ∙ (is.law.counts_is
+            ∙ (is.law.view.counts_is
             ∙ (ap (λ (q : WorkerOf). final_counts setup begin q is.law.begun worker.journal) same_who
             ∙ (ap (λ (d : Counts). final_counts setup begin who d worker.journal) same_counts ∙ ap (final_counts setup begin who counts) (sym e))));
       }
@@ -127,8 +127,8 @@ module _ (setup : SetupView) (begin : Begin) (rows : List Row) (workers : List W
         let (worker, there, e) = of_journal lane.receiver journal g in
         let (who, counts, is) = worker_at lane.receiver worker there in
         let (k, a, among, x) = in_lane workers lane.receiver worker s.rx there s.receiver in
-        let takes = each_got (ShowsTaken setup worker.journal) worker.ins k a is.law.takes among in
-        let empty = each_got (λ (b : LaneInIs). b.hand ≡ Empty) worker.ins k a (is.law.put_down is.done.0) among in
+        let takes = each_got (ShowsTaken setup worker.journal) worker.ins k a is.law.taken.takes among in
+        let empty = each_got (λ (b : LaneInIs). b.hand ≡ Empty) worker.ins k a (is.law.closing.put_down is.done.0) among in
         let number : a.number ≡ n = ap (λ (y : EndpointIs). y.number) (sym x) ∙ s.rx_number in
         ap (λ (y : EndpointIs). y.items) x
         ∙ (takes ∙ (ap (λ h. shown setup a.number worker.journal ++ in_hand h) empty
@@ -140,7 +140,7 @@ module _ (setup : SetupView) (begin : Begin) (rows : List Row) (workers : List W
         let (who, counts, is) = worker_at w worker there in
         let (k, out, at_out, x) = out_lane workers outs w worker s.tx there among in
         let number : out.number ≡ n = ap (λ (y : EndpointIs). y.number) (sym x) ∙ s.tx_number in
-        let sends = each_got (Sends setup begin is.law.who is.law.begun worker.journal) worker.outs k out is.law.sends at_out lane (ap (slice_get (lanes setup.job)) number ∙ at) in
+        let sends = each_got (Sends setup begin is.law.who is.law.begun worker.journal) worker.outs k out is.law.sent.sends at_out lane (ap (slice_get (lanes setup.job)) number ∙ at) in
         let none = each_got (λ (o : LaneOutIs). o.waiting ≡ []) worker.outs k out is.done.1 at_out in
         let all : planned out ≡ out.sent = ap (λ l. out.sent ++ l) none ∙ append-nil out.sent in
         let items : items_sent setup is.law.who (view_at setup begin.turned is.law.who is.law.begun) lane worker.journal ≡ s.tx.items = sym sends ∙ (all ∙ ap (λ (y : EndpointIs). y.items) (sym x)) in
@@ -172,10 +172,10 @@ module _ (setup : SetupView) (begin : Begin) (rows : List Row) (workers : List W
   is_run settled = record {
     setup_is = refl;
     run = record {
-      feed = over.feeds_are ∙ over.feeding.stopped over.stopped;
+      feed = over.feeds_are ∙ over.feeding.course.stopped over.stopped;
       one_start_each = over.starts;
-      one_journal_each = length_mapped (λ (x : WorkedIs). x.journal) (map worked_of workers) ∙ (length_mapped worked_of workers ∙ over.crew.many);
-      one_state_each = length_mapped (λ (x : WorkedIs). x.state) (map worked_of workers) ∙ (length_mapped worked_of workers ∙ over.crew.many);
+      one_journal_each = length-map (map worked_of workers) (λ (x : WorkedIs). x.journal) ∙ (length-map workers worked_of ∙ over.crew.many);
+      one_state_each = length-map (map worked_of workers) (λ (x : WorkedIs). x.state) ∙ (length-map workers worked_of ∙ over.crew.many);
       worked = all_worked;
       conserved = λ n lane journal at g. conserved n lane at (settled n lane at) journal g;
     };

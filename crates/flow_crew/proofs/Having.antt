@@ -1,6 +1,7 @@
 -- Workers and a feeder with their laws have the endpoints of all lanes.
 use Rattle.std.proofs.Common.{◌≡◌, ◌∙◌, ◌≤◌, ℕ, zero, suc, List, [], ◌∷◌, refl, sym, ap, subst, arith, length, map, filter, Some, slice_get}
 use Rattle.std.specs.List.{enumerate_from}
+use Rattle.std.proofs.lemmas.List.{length-map}
 use Rattle.jobs.specs.JobView.{JobView}
 use Rattle.sink_journal.specs.declared.journal.Feed.{Feed}
 use Rattle.tuple_trace.specs.declared.row.Row.{Row}
@@ -16,7 +17,7 @@ use Rattle.flow_worker.specs.Parts.{endpoint_out}
 use Rattle.lane_core.specs.Lane.{EndpointIs}
 use Rattle.flow_worker.specs.Worker.{WorkerIs, lane_numbers_out}
 use Rattle.flow_model.proofs.PlaceLemmas.{map_place}
-use Rattle.flow_worker.proofs.Pairs.{get_mapped, length_mapped}
+use Rattle.sink_journal.proofs.SmallLemmas.{get_mapped}
 use Rattle.coordinator.specs.Feeding.{fed_lanes}
 use Rattle.flow_crew.specs.Ended.{IsOver}
 use Rattle.flow_crew.specs.Sides.{AreMatched, HaveAllLanes, SideIs, feeder_sends, numbers_of, worker_side}
@@ -45,7 +46,7 @@ fed_numbers job ns many at = same_lists ns (lanes_that feeder_sends job) long sa
     long : length ns ≡ length (lanes_that feeder_sends job)
     long =
         many ∙ (ap (λ (l : List Lane). length l) (numbered feeder_sends 0 (lanes job))
-        ∙ (length_mapped (λ (p : ℕ × Lane). p.1) among ∙ sym (length_mapped (λ (p : ℕ × Lane). p.0) among)))
+        ∙ (length-map among (λ (p : ℕ × Lane). p.1) ∙ sym (length-map among (λ (p : ℕ × Lane). p.0))))
 
     same : (k n m : ℕ) → slice_get ns k ≡ Some n → slice_get (lanes_that feeder_sends job) k ≡ Some m → n ≡ m
     same k n m g h =
@@ -58,32 +59,33 @@ fed_numbers job ns many at = same_lists ns (lanes_that feeder_sends job) long sa
 module _ (setup : SetupView) (begin : Begin) (rows : List Row) (workers : List WorkerIs) (feeds : List Feed) (outs : List EndpointIs) (over : IsOver setup begin rows workers feeds outs) where
   pub have_all : HaveAllLanes setup.job (map worker_side workers) outs
   have_all = record {
-    many = length_mapped worker_side workers ∙ over.crew.many;
+    many = length-map workers worker_side ∙ over.crew.many;
     ins = λ w side g.
         let (worker, at, e) = map_place worker_side workers w side g in
-        ap (λ (s : SideIs). numbers_of s.ins) e ∙ (same_in worker.ins ∙ ((over.crew.law w worker at).placed.ins_are ∙ ap (lanes_in setup.job) (over.crew.number w worker at)));
+        ap (λ (s : SideIs). numbers_of s.ins) e ∙ (same_in worker.ins ∙ ((over.crew.law w worker at).placed.ins.are ∙ ap (lanes_in setup.job) (over.crew.number w worker at)));
     outs = λ w side g.
         let (worker, at, e) = map_place worker_side workers w side g in
-        ap (λ (s : SideIs). numbers_of s.outs) e ∙ (same_out worker.outs ∙ ((over.crew.law w worker at).placed.outs_are ∙ ap (out_numbers setup.job) (over.crew.number w worker at)));
+        ap (λ (s : SideIs). numbers_of s.outs) e ∙ (same_out worker.outs ∙ ((over.crew.law w worker at).placed.outs.are ∙ ap (out_numbers setup.job) (over.crew.number w worker at)));
     feeder = fed_numbers setup.job (numbers_of outs) long numbered;
   }
     where
       long : length (numbers_of outs) ≡ length (fed_lanes setup.job)
       long =
-          length_mapped (λ (x : EndpointIs). x.number) outs
-          ∙ (ap (λ (l : List EndpointIs). length l) over.outs_are ∙ over.feeding.outs_are)
+          length-map outs (λ (x : EndpointIs). x.number)
+          ∙ (ap (λ (l : List EndpointIs). length l) over.outs_are ∙ over.feeding.lanes.outs_are)
 
       numbered : (k n : ℕ) (lane : Lane) → slice_get (numbers_of outs) k ≡ Some n → slice_get (fed_lanes setup.job) k ≡ Some lane → slice_get (lanes setup.job) n ≡ Some lane
       numbered k n lane g h =
           let (x, at, e) = map_place (λ (x : EndpointIs). x.number) outs k n g in
-          let is = over.feeding.outs k lane x h (ap (λ l. slice_get l k) (sym over.outs_are) ∙ at) in
-          ap (slice_get (lanes setup.job)) e ∙ is.numbered
+          let there = ap (λ l. slice_get l k) (sym over.outs_are) ∙ at in
+          let is = over.feeding.lanes.outs k lane x h there in
+          ap (slice_get (lanes setup.job)) e ∙ is.endpoint.numbered
 
   pub room_in : EachOne (λ (w : WorkerIs). length w.ins ≤ w.spare_in) workers
-  room_in = each_placed (λ (w : WorkerIs). length w.ins ≤ w.spare_in) workers (λ k w g. (over.crew.law k w g).placed.room_in)
+  room_in = each_placed (λ (w : WorkerIs). length w.ins ≤ w.spare_in) workers (λ k w g. (over.crew.law k w g).placed.ins.room)
 
   pub room_out : EachOne (λ (w : WorkerIs). length w.outs ≤ w.spare_out) workers
-  room_out = each_placed (λ (w : WorkerIs). length w.outs ≤ w.spare_out) workers (λ k w g. (over.crew.law k w g).placed.room_out)
+  room_out = each_placed (λ (w : WorkerIs). length w.outs ≤ w.spare_out) workers (λ k w g. (over.crew.law k w g).placed.outs.room)
 
   -- the same of the endpoints as code has them
   pub have_so : (job : JobView) (sides : List SideIs) → setup.job ≡ job → sides ≡ map worker_side workers → HaveAllLanes job sides outs

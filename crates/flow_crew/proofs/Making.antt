@@ -166,10 +166,6 @@ new_at job graph n lane edge end at is empty number origin = (
   tt,
 )
 
-pub if_ok : {A E : Type 0} (P Q : A → Type 0) (r : Result A E) → ((x : A) → P x → Q x) → IfOk r P → IfOk r Q
-if_ok P Q (Ok x) f p = f x p
-if_ok P Q (Err e) f p = p
-
 pub both_ok : {A E : Type 0} (P Q : A → Type 0) (r : Result A E) → IfOk r P → IfOk r Q → IfOk r (λ x. P x × Q x)
 both_ok P Q (Ok x) p q = (p, q)
 both_ok P Q (Err e) p q = tt

@@ -5,7 +5,7 @@ use Rattle.flow_worker.specs.Endpoints.{LaneInIs, LaneOutIs}
 use Rattle.flow_worker.specs.Parts.{endpoint_in, endpoint_out}
 use Rattle.flow_worker.specs.Worker.{WorkerIs}
 use Rattle.flow_model.proofs.PlaceLemmas.{map_place}
-use Rattle.flow_worker.proofs.Pairs.{get_mapped}
+use Rattle.sink_journal.proofs.SmallLemmas.{get_mapped}
 use Rattle.flow_crew.specs.Sides.{AreMatched, ins_at, IsAmong, lane_ids, outs_at, side_ins, side_outs, SideIs, worker_side}
 use Rattle.flow_crew.proofs.Ending.{in_lane, out_lane}
 

@@ -148,19 +148,17 @@ module _ (setup : SetupView) (requests : List Request) (same : changes_of reques
 
   placed_kept : (who : WorkerOf) (w : WorkerIs) → IsPlaced setup who w → IsPlaced ran who w
   placed_kept who w h = record {
-    who_is = h.who_is;
-    node_is = h.node_is;
-    place_is = h.place_is;
+    stands = h.stands;
     graph = h.graph;
     graph_is = h.graph_is;
-    ins_are = h.ins_are;
-    ends_in = each_as w.ins h.ends_in;
-    some_in = h.some_in;
-    few_in = h.few_in;
-    outs_are = h.outs_are;
-    ends_out = each_as_out w.outs h.ends_out;
-    room_in = h.room_in;
-    room_out = h.room_out;
+    ins = record {
+      are = h.ins.are;
+      ends = each_as w.ins h.ins.ends;
+      some = h.ins.some;
+      few = h.ins.few;
+      room = h.ins.room;
+    };
+    outs = record { are = h.outs.are; ends = each_as_out w.outs h.outs.ends; room = h.outs.room };
   }
     where
       each_as : (ins : List LaneInIs) → EachOne (IsEndpointIn setup h.graph) ins → EachOne (IsEndpointIn ran h.graph) ins
@@ -178,21 +176,31 @@ module _ (setup : SetupView) (requests : List Request) (same : changes_of reques
     begun = h.begun;
     begun_is = h.begun_is;
     lawful = subst (λ s. IsLawfulJournal s w.journal) (sym (station_same begin.turned h.who)) h.lawful;
-    func_is = func_in_same w.node w.in_force ∙ (h.func_is ∙ ap (λ (l : StateView). Some l.func) (sym (now_same begin h.who h.begun w.journal)));
-    counts_is = h.counts_is ∙ ap (λ (l : StateView). l.counts) (sym (now_same begin h.who h.begun w.journal));
-    last_is = h.last_is ∙ ap (λ (l : StateView). l.last) (sym (now_same begin h.who h.begun w.journal));
-    takes = subst (λ (F : ℕ → List Item). EachOne (λ (a : LaneInIs). a.taken ≡ F a.number ++ in_hand a.hand) w.ins) (λ i n. sym (shown_same n w.journal) i) h.takes;
-    steady_in = h.steady_in;
-    sends = subst (λ (F : Lane → List Item). EachOne (λ (out : LaneOutIs). (lane : Lane) → slice_get (lanes setup.job) out.number ≡ Some lane → planned out ≡ F lane) w.outs)
-        (λ i lane. sym (sends_same begin h.who h.begun w.journal lane) i) h.sends;
-    steady_out = h.steady_out;
+    view = record {
+      func_is = func_in_same w.node w.in_force ∙ (h.view.func_is ∙ ap (λ (l : StateView). Some l.func) (sym (now_same begin h.who h.begun w.journal)));
+      counts_is = h.view.counts_is ∙ ap (λ (l : StateView). l.counts) (sym (now_same begin h.who h.begun w.journal));
+      last_is = h.view.last_is ∙ ap (λ (l : StateView). l.last) (sym (now_same begin h.who h.begun w.journal));
+    };
+    taken = record {
+      takes = subst (λ (F : ℕ → List Item). EachOne (λ (a : LaneInIs). a.taken ≡ F a.number ++ in_hand a.hand) w.ins) (λ i n. sym (shown_same n w.journal) i) h.taken.takes;
+      steady = h.taken.steady;
+    };
+    sent = record {
+      sends = subst (λ (F : Lane → List Item). EachOne (λ (out : LaneOutIs). (lane : Lane) → slice_get (lanes setup.job) out.number ≡ Some lane → planned out ≡ F lane) w.outs)
+          (λ i lane. sym (sends_same begin h.who h.begun w.journal lane) i) h.sent.sends;
+      steady = h.sent.steady;
+    };
     turned_is = h.turned_is;
-    dues_are = dues_kept w.node (progress_now ran begin h.who w.journal).dues w.due (subst (λ p. AreDues setup w.node p.dues w.due) (sym (progress_same begin h.who w.journal)) h.dues_are);
-    due_is = due_kept w.node (edges_of w.ins) w.due h.due_is;
-    few_turned = h.few_turned;
-    unended = λ c. ap (λ p. p.ended) (progress_same begin h.who w.journal) ∙ h.unended c;
-    finished = λ c. subst (λ s. IsFinished s w.journal) (sym (station_same begin.turned h.who)) (h.finished c);
-    put_down = h.put_down;
+    due = record {
+      dues_are = dues_kept w.node (progress_now ran begin h.who w.journal).dues w.due (subst (λ p. AreDues setup w.node p.dues w.due) (sym (progress_same begin h.who w.journal)) h.due.dues_are);
+      due_is = due_kept w.node (edges_of w.ins) w.due h.due.due_is;
+      few_turned = h.due.few_turned;
+    };
+    closing = record {
+      unended = λ c. ap (λ p. p.ended) (progress_same begin h.who w.journal) ∙ h.closing.unended c;
+      finished = λ c. subst (λ s. IsFinished s w.journal) (sym (station_same begin.turned h.who)) (h.closing.finished c);
+      put_down = h.closing.put_down;
+    };
   }
 
   pub crew_kept : (begin : Begin) (workers : List WorkerIs) → IsCrew setup begin workers → IsCrew ran begin workers

@@ -7,11 +7,12 @@ use Rattle.jobs.specs.JobView.{JobView}
 use Rattle.tuple_trace.specs.declared.tuple.Item.{Item}
 use Rattle.flow_model.specs.Lanes.{lanes}
 use Rattle.flow_model.specs.declared.topology.Lane.{Lane}
+use Rattle.flow_model.proofs.LaneNumbers.{receiver_below}
 use Rattle.lane_core.specs.Lane.{EndpointIs}
 use Rattle.flow_crew.specs.Sides.{AreMatched, AreSettled, feeder_sends, HaveAllLanes, ins_at, IsAmong, IsSettled, outs_at, side_ins, side_outs, SideIs}
 use Rattle.flow_crew.specs.Sorted.{HaveFirstLanes, changed_at, leads_to, leads_from, more_in, with_fed, with_out}
 use Rattle.flow_crew.proofs.Numbers.{first_all}
-use Rattle.flow_crew.proofs.Sorting.{each_placed, lane_receiver, lane_sender, receiver_has, sender_has, unsort_in, unsort_out}
+use Rattle.flow_crew.proofs.Sorting.{each_placed, lane_sender, receiver_has, sender_has, unsort_in, unsort_out}
 
 module _ (job : JobView) (all : List SideIs) (fed : List EndpointIs) where
   -- an endpoint of a sender, or of a receiver, at the beginning
@@ -62,7 +63,7 @@ module _ (job : JobView) (all : List SideIs) (fed : List EndpointIs) where
       subst (λ (xs : List SideIs). HaveFirstLanes job Sends Takes (n + 1) (n + 1) xs (with_fed lane.sender (tx ∷ []) left)) a
       (subst (HaveFirstLanes job Sends Takes (n + 1) (n + 1) old) b settling.sorted) in
       let (tx_number, sends, half) = unsort_out job Sends Takes n lane at (n + 1) tx middle left (lane_sender job n lane at) s in
-      receiver_has job Sends Takes n lane at n middle left (lane_receiver job n lane at) half none
+      receiver_has job Sends Takes n lane at n middle left (receiver_below job n lane at) half none
 
   -- the two endpoints of the last lane that isn't settled
   pub record AreLast (n : ℕ) (lane : Lane) (tx rx : EndpointIs) (now : List SideIs) (left : List EndpointIs) : Type 0 where
@@ -80,7 +81,7 @@ module _ (job : JobView) (all : List SideIs) (fed : List EndpointIs) where
       subst (λ (xs : List SideIs). HaveFirstLanes job Sends Takes (n + 1) (n + 1) xs (with_fed lane.sender (tx ∷ []) left)) a
       (subst (HaveFirstLanes job Sends Takes (n + 1) (n + 1) old) b settling.sorted) in
       let (tx_number, sends, half) = unsort_out job Sends Takes n lane at (n + 1) tx middle left (lane_sender job n lane at) s in
-      let (rx_number, takes, rest) = unsort_in job Sends Takes n lane at n rx now left (lane_receiver job n lane at)
+      let (rx_number, takes, rest) = unsort_in job Sends Takes n lane at n rx now left (receiver_below job n lane at)
       (subst (λ (xs : List SideIs). HaveFirstLanes job Sends Takes n (n + 1) xs left) d half) in
       record { tx_number = tx_number; rx_number = rx_number; sends = sends; takes = takes; sorted = rest }
 

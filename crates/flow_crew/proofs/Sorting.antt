@@ -10,7 +10,6 @@ use Rattle.flow_model.specs.declared.topology.Lane.{Lane}
 use Rattle.flow_model.specs.Workers.{workers_in}
 use Rattle.flow_model.proofs.ElementLemmas.{IsIn}
 use Rattle.flow_model.proofs.LaneLemmas.{lane_is, sender_worker}
-use Rattle.flow_model.proofs.LaneNumbers.{receiver_there}
 use Rattle.flow_model.proofs.WorkerLemmas.{item_at}
 use Rattle.flow_worker.specs.Pairs.{EachOne}
 use Rattle.lane_core.specs.Lane.{EndpointIs}
@@ -289,10 +288,7 @@ module _ (job : JobView) (P : Option ℕ → EndpointIs → Type 0) (Q : ℕ →
       let there = item_at sides lane.receiver (omega (arith, m, lt)) in
       some_end job i lane at (leads_to lane.receiver) (Q lane.receiver) there.0.ins (eq-eqb lane.receiver lane.receiver refl) (h.ins lane.receiver there.0 there.1) (ap side_ins (sym there.1) ∙ none)
 
--- ---- a lane's sender and receiver are workers of the job
-
-pub lane_receiver : (job : JobView) (i : ℕ) (lane : Lane) → slice_get (lanes job) i ≡ Some lane → lane.receiver < length (workers_in job)
-lane_receiver job i lane at = let is = lane_is job i lane at in slice_get_within (workers_in job) lane.receiver is.to (receiver_there job lane is)
+-- ---- a lane's sender is a worker of the job
 
 pub lane_sender : (job : JobView) (i : ℕ) (lane : Lane) → slice_get (lanes job) i ≡ Some lane → IfSome lane.sender (λ w. w < length (workers_in job))
 lane_sender job i lane at = go lane.sender refl

@@ -14,7 +14,7 @@ ghost use Rattle.flow_crew.specs.Sides.{AreMatched, HoldAtMost, SideIs, worker_s
 
 use crate::{AllEndpoints, Side};
 use control_box::{Poster, make_box};
-use flow_model::{Setup, Start};
+use flow_model::{Setup, SetupWorker, Start};
 use flow_worker::{Worker, WorkerStart};
 use keyed_state::Keyed;
 use lane_core::Lanes;
@@ -138,12 +138,9 @@ fn make_workers<L: Lanes>(
         let (ins, outs) = side.open();
         let number = workers.len() as u32;
         let counts = take_counts(&mut left);
-        let from = WorkerStart {
-            number,
-            turned,
-            counts,
-        };
-        let worker = Worker::make_from(alloc, setup, ins, outs, owner, from)?;
+        let who = SetupWorker { setup, number };
+        let from = WorkerStart { turned, counts };
+        let worker = Worker::make_from(alloc, who, ins, outs, owner, from)?;
         workers.push(worker)?;
         posters.push(poster)?;
     }

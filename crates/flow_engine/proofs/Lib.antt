@@ -1,2 +1,3 @@
+pub mod FlownLemmas
 pub mod Moving
 pub mod Over

@@ -56,23 +56,10 @@ module _ (setup : SetupView) (requests : List Request) where
 
   pub feeding_moved : (begin : Begin) (xs : List ℕ) (rows : List Row) (f : FeederIs) → IsFeeding setup begin xs rows f → IsFeeding moved begin xs rows f
   feeding_moved begin xs rows f law = record {
-    row_begun = law.row_begun;
-    turned_begun = law.turned_begun;
-    graph = law.graph;
-    graph_is = law.graph_is;
-    in_order = law.in_order;
-    issued_within = law.issued_within;
-    counted = law.counted;
-    going = law.going;
-    stopped = law.stopped;
-    places_are = law.places_are;
-    outs_are = law.outs_are;
-    outs = λ place lane out g h.
-        let o = law.outs place lane out g h in
-        record { edge = o.edge; numbered = o.numbered; edge_is = o.edge_is; origin_is = o.origin_is; sent_is = o.sent_is };
-    ended_within = law.ended_within;
-    ending = law.ending;
-    all_ended = law.all_ended;
+    begun = law.begun;
+    course = law.course;
+    lanes = law.lanes;
+    ended = law.ended;
     boxes = boxes_moved begin.turned f.issued f.boxes law.boxes;
     held = law.held;
   }

@@ -120,7 +120,7 @@ module _ (setup : SetupView) (begin : Begin) (rows : List Row) (old new : List W
       let same : waits true setup (length rows) f ≡ issue_rows 0 feeds = all_waited setup begin rows f h.law first.0 first.1 h.stopped ∙ ap (issue_rows 0) (sym h.feeds_are) in
       record {
         one_each = ap (λ fs. length (issue_rows 0 fs)) h.feeds_are ∙ all_issued setup begin rows f h.law first.0 first.1 h.stopped;
-        rising = subst (AreRising 0) same h.law.feeding.in_order;
+        rising = subst (AreRising 0) same h.law.feeding.course.in_order;
         not_before = subst (λ ws. (place after waited : ℕ) → slice_get (afters setup.requests) place ≡ Some after → slice_get ws place ≡ Some waited → min after (length rows) ≤ waited) same h.law.not_before;
       }
 

@@ -44,6 +44,10 @@ abbrev pub count_to : ℕ → ℕ → List ℕ → ℕ
 count_to row rows [] = 0
 count_to row rows (after ∷ waits) = cond (nat_le (min after rows) row) (suc (count_to row rows waits)) (count_to row rows waits)
 
+pub count_all : (rows : ℕ) (xs : List ℕ) → count_to rows rows xs ≡ length xs
+count_all rows [] = refl
+count_all rows (x ∷ xs) = rw (le-leb (min x rows) rows (omega arith)) (ap suc (count_all rows xs))
+
 pub count_at_first : (rows r : ℕ) (waits : List ℕ) → length (issued_at_first 0 rows r waits) ≡ count_to 0 rows waits
 count_at_first rows r [] = refl
 count_at_first rows r (after ∷ waits) = go (nat_le (min after rows) 0) (count_at_first rows (r + 1) waits)
@@ -136,6 +140,11 @@ order_le : (row i : ℕ) (request : Request) (requests : List Request) → AreIn
 order_le row i request [] o g = absurd (cc)
 order_le row zero request (q ∷ later) o g = let e : q ≡ request = cc in subst (λ (x : Request). row ≤ x.after) e o.0
 order_le row (suc i) request (q ∷ later) o g = let le : q.after ≤ request.after = order_le q.after i request later o.1 g in let h = o.0 in omega arith
+
+-- requests in order after a row are in order after an earlier one
+pub order_weaker : (low high : ℕ) (requests : List Request) → low ≤ high → AreInOrder high requests → AreInOrder low requests
+order_weaker low high [] le o = tt
+order_weaker low high (request ∷ later) le o = (let h : high ≤ request.after = o.0 in omega arith, o.1)
 
 -- a later request waits for no earlier row
 pub order_rises : (row i j : ℕ) (a b : Request) (requests : List Request) → AreInOrder row requests → i ≤ j → slice_get requests i ≡ Some a → slice_get requests j ≡ Some b → a.after ≤ b.after

@@ -12,7 +12,7 @@ use Rattle.flow_model.specs.Lanes.{first_on, is_same_lane, is_same_sender, is_se
 use Rattle.flow_model.specs.declared.topology.Lane.{Lane}
 use Rattle.flow_model.specs.SetupView.{SetupView, Worker}
 use Rattle.flow_model.specs.Workers.{workers_in, workers_at_node}
-use Rattle.flow_model.proofs.ElementLemmas.{AreDistinct, IsIn, distinct_by_place, distinct_flat_map, distinct_map, filter_in, flat_map_in, in_filter, in_flat_map, in_map, in_of_place, map_in, place_of_in, same_place}
+use Rattle.flow_model.proofs.ElementLemmas.{AreDistinct, IsIn, distinct_by_place, distinct_filter, distinct_flat_map, distinct_map, filter_in, flat_map_in, in_filter, in_flat_map, in_map, in_of_place, map_in, place_of_in, same_place}
 use Rattle.flow_model.proofs.WorkerLemmas.{IsWorker, in_workers, in_workers_at_node, workers_at_node_distinct, same_who}
 
 -- ---- items with their places
@@ -205,6 +205,24 @@ pub lanes_that_in : (test : Lane → Bool) (job : JobView) (n : ℕ) (lane : Lan
 lanes_that_in test job n lane g t =
     map_in (λ (p : ℕ × Lane). p.0) (n, lane) (filter (λ (p : ℕ × Lane). test p.1) (enumerate_from 0 (lanes job)))
     (filter_in (λ (p : ℕ × Lane). test p.1) (n, lane) (enumerate_from 0 (lanes job)) (enumerate_in 0 (lanes job) n n lane g (omega arith)) t)
+
+pub lanes_that-distinct : (test : Lane → Bool) (job : JobView) → AreDistinct (lanes_that test job)
+lanes_that-distinct test job =
+    distinct_map (λ (p : ℕ × Lane). p.0) passing one (distinct_filter (λ (p : ℕ × Lane). test p.1) (enumerate_from 0 (lanes job)) (enumerate_distinct (lanes job)))
+  where
+    passing : List (ℕ × Lane)
+    passing = filter (λ (p : ℕ × Lane). test p.1) (enumerate_from 0 (lanes job))
+
+    there : (p : ℕ × Lane) → IsIn p passing → slice_get (lanes job) p.0 ≡ Some p.1
+    there p i =
+        let (k, at, is) = in_enumerate 0 (lanes job) p (in_filter (λ (p : ℕ × Lane). test p.1) p (enumerate_from 0 (lanes job)) i).0 in
+        let number : k ≡ p.0 = omega (arith, at) in
+        subst (λ (n : ℕ). slice_get (lanes job) n ≡ Some p.1) number is
+
+    one : (p q : ℕ × Lane) → IsIn p passing → IsIn q passing → p.0 ≡ q.0 → p ≡ q
+    one p q i j e =
+        let same : p.1 ≡ q.1 = same_Some p.1 q.1 (sym (there p i) ∙ (ap (slice_get (lanes job)) e ∙ there q j)) in
+        λ i. (e i, same i)
 
 -- ---- the lanes into a worker
 

@@ -1,5 +1,5 @@
 -- Lanes by their numbers.
-use Rattle.std.proofs.Common.{◌≡◌, ◌+◌, ◌*◌, ◌==◌, ◌&&◌, ℕ, zero, suc, List, [], ◌∷◌, Bool, true, false, cond, length, take, Option, Some, None, refl, sym, ap, ◌∙◌, arith}
+use Rattle.std.proofs.Common.{◌≡◌, ◌<◌, ◌+◌, ◌*◌, ◌==◌, ◌&&◌, ℕ, zero, suc, List, [], ◌∷◌, Bool, true, false, cond, length, take, Option, Some, None, refl, sym, ap, ◌∙◌, arith}
 use Rattle.std.specs.Prelude.{option_map, slice_get}
 use Rattle.std.specs.List.{enumerate_from, flat_map}
 use Rattle.std.proofs.lemmas.Bool.{and_parts, eqb-true}
@@ -14,7 +14,7 @@ use Rattle.flow_model.specs.Workers.{nth_worker, workers_in, workers_at_node}
 use Rattle.tuple_trace.specs.declared.tuple.Tuple.{Tuple}
 use Rattle.std.proofs.lemmas.List.{length-map}
 use Rattle.flow_model.specs.Topology.{first_lane, lanes_along}
-use Rattle.flow_model.proofs.LaneLemmas.{LaneIs, lanes_from}
+use Rattle.flow_model.proofs.LaneLemmas.{LaneIs, lane_is, lanes_from}
 use Rattle.flow_model.proofs.PlaceLemmas.{flat_map_get}
 use Rattle.flow_model.proofs.WorkerLemmas.{in_workers, in_workers_at_node, worker_with}
 use Rattle.flow_model.proofs.PieceLemmas.{get-enumerate, length-pieces}
@@ -100,6 +100,9 @@ is_lane_of job sender node port tuple lane = go (first_on node port (enumerate_f
 -- the receiver of a lane is a worker of the job, at the end of its edge
 pub receiver_there : (job : JobView) (lane : Lane) (is : LaneIs job lane) → slice_get (workers_in job) lane.receiver ≡ Some is.to
 receiver_there job lane is = ap (slice_get (workers_in job)) is.receiver ∙ (in_workers job is.to (in_workers_at_node job is.edge.to is.to is.receives).0).there
+
+pub receiver_below : (job : JobView) (n : ℕ) (lane : Lane) → slice_get (lanes job) n ≡ Some lane → lane.receiver < length (workers_in job)
+receiver_below job n lane e = let is = lane_is job n lane e in slice_get_within (workers_in job) lane.receiver is.to (receiver_there job lane is)
 
 pub receiver_node : (job : JobView) (lane : Lane) (is : LaneIs job lane) → (nth_worker job lane.receiver).node ≡ is.edge.to
 receiver_node job lane is = ap (λ (p : Worker). p.node) (nth_worker-get job lane.receiver is.to (receiver_there job lane is)) ∙ (in_workers_at_node job is.edge.to is.to is.receives).1

@@ -45,6 +45,7 @@ pub mod OnceLemmas
 pub mod SetupLemmas
 pub mod StartLemmas
 pub mod FreshLemmas
+pub mod IssueLemmas
 pub mod SumLemmas
 pub mod FitLemmas
 pub mod FlowLemmas

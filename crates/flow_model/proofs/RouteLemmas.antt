@@ -179,9 +179,9 @@ lane_limits job all n law same lt =
 
 -- a worker that the code reads
 abbrev pub worker_read : List WorkerAt → ℕ → WorkerAt
-worker_read all w = get_or all w (record { node = 0; index = 0 })
+worker_read all w = get_or all w (record { node = 0; place = 0 })
 
 pub worker_is_at : (job : JobView) (all : List WorkerAt) (w : ℕ) → all ≡ map worker_of (workers_in job) → w < length (workers_in job) → worker_read all w ≡ worker_of (nth_worker job w)
 worker_is_at job all w same lt =
-    get_or_from_slice_get all w (worker_of (nth_worker job w)) (record { node = 0; index = 0 })
+    get_or_from_slice_get all w (worker_of (nth_worker job w)) (record { node = 0; place = 0 })
     (ap (λ (l : List WorkerAt). slice_get l w) same ∙ (slice_get-map worker_of (workers_in job) w ∙ ap (option_map worker_of) (get-nth_worker job w lt)))

@@ -1,5 +1,5 @@
 -- In a run what each lane brings is what was put on it, every lane is steady, and each worker's tuples agree with its turns.
-use Rattle.std.proofs.Common.{◌≡◌, ◌∙◌, ◌<◌, ◌+◌, ◌++◌, ℕ, zero, suc, List, [], ◌∷◌, ◌⊎◌, inl, inr, refl, sym, subst, ap, arith, true, false, Bool, cond, length, map, option_map, Some, None, Option, slice_get, All}
+use Rattle.std.proofs.Common.{◌≡◌, ◌∙◌, ◌<◌, ◌≤◌, ◌+◌, ◌++◌, ℕ, zero, suc, List, [], ◌∷◌, ◌⊎◌, inl, inr, refl, sym, subst, ap, arith, true, false, Bool, cond, length, map, option_map, Some, None, Option, slice_get, All}
 use Rattle.std.specs.FinMap.{empty}
 use Rattle.std.proofs.lemmas.Option.{slice_get-get_or, slice_get-map, slice_get_within}
 use Rattle.flow_dag.specs.Edges.{HasEdge}
@@ -134,6 +134,11 @@ in_fed_puts job rows issued (feed.Stopped ∷ more) p h = in_fed_puts job rows i
 pub row_is : (rows : List Row) (number : ℕ) (row : Row) → AreRows rows → row_numbered rows number ≡ Some row → IsRow number row
 row_is rows zero row are e = absurd (cc)
 row_is rows (suc place) row are e = let n : place + 1 ≡ suc place = omega arith in subst (λ k. IsRow k row) n (are place row e)
+
+-- there are so many rows
+pub row_numbered-within : (rows : List Row) (number : ℕ) (row : Row) → row_numbered rows number ≡ Some row → number ≤ length rows
+row_numbered-within rows zero row e = absurd (cc)
+row_numbered-within rows (suc place) row e = let lt : place < length rows = slice_get_within rows place row e in omega arith
 
 -- a tuple that was nowhere yet, or the end
 abbrev pub IsFed : Item → Type 0

@@ -21,12 +21,16 @@ record SetupKeeps (setup : SetupView) : Type 0 where
   kinds : KeepKinds setup.job setup.requests
   order : AreInOrder 0 setup.requests
 
+-- the requests of a setup stand in the order of the rows that they wait for
+pub in_order : (setup : Setup) → AreInOrder 0 (setup_view setup).requests
+in_order setup = accepted-order (job_view setup.job) setup.judged.accepted setup.accepted
+
 kept_view : (setup : Setup) → SetupKeeps (setup_view setup)
 kept_view setup = record {
   connected_job = connected (job_view setup.job) setup.job.dag setup.job.lawful refl setup.job.drawn;
   covers = has_covers (setup_view setup) setup.planned;
   kinds = accepted-kept (job_view setup.job) setup.judged.accepted setup.accepted;
-  order = accepted-order (job_view setup.job) setup.judged.accepted setup.accepted;
+  order = in_order setup;
 }
 
 pub running : (setup : Setup) (rows : List Row) (ran : Ran) → AreRows rows → IsRun (setup_view setup) rows ran → Running rows ran

@@ -16,7 +16,7 @@ use Rattle.flow_model.specs.declared.worker_state.WorkerState.{WorkerState}
 use Rattle.flow_model.proofs.WorkerLemmas.{worker_with}
 
 abbrev pub visit_by : WorkerAt → ℕ → Visit
-visit_by at last = record { node = at.node; worker = at.index; last = last }
+visit_by at last = record { node = at.node; worker = at.place; last = last }
 
 its_func : (setup : SetupView) (at : WorkerAt) (who : Worker) (state : WorkerState) (f : Func) →
     IsWorkerAt setup.job at who → IsInForce setup at.node state.func f → f ≡ func_at setup who state.func

@@ -86,9 +86,9 @@ get-range f a (suc n) (suc i) j y e g = get-range f (a + 1) n i j y (omega arith
 
 -- ---- workers
 
-pub workers-at : (number node : ℕ) (f : Func) (place n : ℕ) → map worker_of (node_workers number node f place n) ≡ map (λ (p : ℕ). record { node = node; index = p }) (range_with_len place n)
+pub workers-at : (number node : ℕ) (f : Func) (place n : ℕ) → map worker_of (node_workers number node f place n) ≡ map (λ (p : ℕ). record { node = node; place = p }) (range_with_len place n)
 workers-at number node f place zero = refl
-workers-at number node f place (suc n) = ap (λ (l : List WorkerAt). record { node = node; index = place } ∷ l) (workers-at (number + 1) node f (place + 1) n)
+workers-at number node f place (suc n) = ap (λ (l : List WorkerAt). record { node = node; place = place } ∷ l) (workers-at (number + 1) node f (place + 1) n)
 
 -- which node and index a worker has doesn't hang on its number
 pub workers-from : (a b node : ℕ) (nodes : List NodeDef) → map worker_of (workers_from a node nodes) ≡ map worker_of (workers_from b node nodes)
@@ -101,11 +101,11 @@ workers-from a b node (def ∷ more) =
 
 -- the workers of one node more
 pub workers-next : (nodes : List NodeDef) (i workers : ℕ) (def : NodeDef) (done more all : List WorkerAt) → slice_get nodes i ≡ Some def → workers ≡ workers_of def
-    → more ≡ done ++ map (λ (p : ℕ). record { node = i; index = p }) (range_with_len 0 workers)
+    → more ≡ done ++ map (λ (p : ℕ). record { node = i; place = p }) (range_with_len 0 workers)
     → done ++ map worker_of (workers_from 0 i (drop i nodes)) ≡ all → more ++ map worker_of (workers_from 0 (i + 1) (drop (i + 1) nodes)) ≡ all
 workers-next nodes i workers def done more all e w grown h =
-    ap (λ (l : List WorkerAt). l ++ map worker_of (workers_from 0 (i + 1) (drop (i + 1) nodes))) (grown ∙ ap (λ (k : ℕ). done ++ map (λ (p : ℕ). record { node = i; index = p }) (range_with_len 0 k)) w)
-    ∙ (append_assoc done (map (λ (p : ℕ). record { node = i; index = p }) (range_with_len 0 (workers_of def))) (map worker_of (workers_from 0 (i + 1) (drop (i + 1) nodes)))
+    ap (λ (l : List WorkerAt). l ++ map worker_of (workers_from 0 (i + 1) (drop (i + 1) nodes))) (grown ∙ ap (λ (k : ℕ). done ++ map (λ (p : ℕ). record { node = i; place = p }) (range_with_len 0 k)) w)
+    ∙ (append_assoc done (map (λ (p : ℕ). record { node = i; place = p }) (range_with_len 0 (workers_of def))) (map worker_of (workers_from 0 (i + 1) (drop (i + 1) nodes)))
     ∙ (ap (λ (l : List WorkerAt). done ++ (l ++ map worker_of (workers_from 0 (i + 1) (drop (i + 1) nodes)))) (sym (workers-at 0 i def.func 0 (workers_of def)))
     ∙ (ap (λ (l : List WorkerAt). done ++ (map worker_of (node_workers 0 i def.func 0 (workers_of def)) ++ l)) (workers-from 0 (0 + workers_of def) (i + 1) (drop (i + 1) nodes))
     ∙ (ap (λ (l : List WorkerAt). done ++ l) (sym (map-append worker_of (node_workers 0 i def.func 0 (workers_of def)) (workers_from (0 + workers_of def) (i + 1) (drop (i + 1) nodes))))

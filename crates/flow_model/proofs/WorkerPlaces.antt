@@ -1,16 +1,18 @@
 -- Workers by their numbers, and by their nodes.
 use Rattle.std.proofs.Common.{◌≡◌, ◌<◌, ◌+◌, ℕ, List, length, Some, refl, sym, ap, subst, ◌∙◌, arith}
-use Rattle.std.specs.Prelude.{slice_get}
+use Rattle.std.specs.Prelude.{option_map, slice_get}
 use Rattle.std.proofs.lemmas.Option.{get_or_from_slice_get, same_Some, slice_get-get_or, slice_get_within}
 use Rattle.jobs.specs.Nodes.{workers_of}
 use Rattle.jobs.specs.declared.func.NodeDef.{NodeDef}
 use Rattle.jobs.specs.JobView.{JobView}
-use Rattle.flow_model.specs.SetupView.{Worker}
+use Rattle.flow_model.specs.InForce.{func_in}
+use Rattle.flow_model.specs.SetupView.{SetupView, Worker}
 use Rattle.flow_model.specs.Workers.{nobody, nth_worker, workers_in, workers_at_node}
 use Rattle.flow_model.proofs.ElementLemmas.{in_of_place, place_of_in}
 use Rattle.flow_model.proofs.WorkerListLemmas.{get-node_workers, length-workers_at_node, who_by, workers_at_node-node}
 use Rattle.flow_model.proofs.WorkerLemmas.{IsWorker, workers_at_node_in, worker_with}
 use Rattle.flow_model.specs.Topology.{first_worker}
+use Rattle.flow_model.specs.declared.in_force.InForce.TheVariants.{Own}
 
 -- ---- all workers
 
@@ -25,6 +27,12 @@ worker_at job w lt = worker_with job w (nth_worker job w) (get-nth_worker job w 
 
 pub node_below : (job : JobView) (w : ℕ) → w < length (workers_in job) → (nth_worker job w).node < length job.nodes
 node_below job w lt = let (number, is) = worker_at job w lt in slice_get_within job.nodes (nth_worker job w).node is.def is.node_is
+
+-- the function of a worker is that of the job at first
+pub own_func : (setup : SetupView) (w : ℕ) → w < length (workers_in setup.job) → func_in setup (nth_worker setup.job w).node Own ≡ Some (nth_worker setup.job w).func
+own_func setup w there =
+    let is = (worker_at setup.job w there).1 in
+    ap (option_map (λ (def : NodeDef). def.func)) is.node_is ∙ ap Some (sym is.func_is)
 
 -- ---- the workers of a node
 

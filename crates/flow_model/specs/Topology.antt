@@ -15,7 +15,7 @@ use Rattle.flow_model.specs.SetupView.{Worker}
 use Rattle.flow_model.specs.Workers.{workers_in, workers_at_node}
 
 abbrev pub worker_of : Worker → WorkerAt
-worker_of who = record { node = who.node; index = who.place }
+worker_of who = record { node = who.node; place = who.place }
 
 -- the number of the first worker of a node
 abbrev pub first_worker : JobView → ℕ → ℕ

@@ -59,9 +59,9 @@ impl Setup {
     /// port, or `None` if no edge leaves the node by that port. A source has one sender, the
     /// feeder. Takes no memory.
     pub fn route(&self, sender: WorkerAt, port: u32, tuple: &Tuple) -> Option<u32>
-        requires { sender.index < length (senders (setup_view self.now).job sender.node) }
+        requires { sender.place < length (senders (setup_view self.now).job sender.node) }
         ensures some { IfSome result (λ number. (from : Option ℕ)
-            → slice_get (senders (setup_view self.now).job sender.node) sender.index ≡ Some from
+            → slice_get (senders (setup_view self.now).job sender.node) sender.place ≡ Some from
             → IsNumberOf (setup_view self.now).job
             (lane_of (setup_view self.now).job from sender.node port tuple.now) number) }
         ensures none { IfNone result ((from : Option ℕ)

@@ -60,4 +60,4 @@ pub use setup_worker::SetupWorker;
 pub use sink_journal::States;
 pub use start::Start;
 pub use topology::{Lane, LaneNumbers, OutEdge, OutEdges, Topology, WorkerAt};
-pub use worker_state::WorkerState;
+pub use worker_state::{WorkerFunc, WorkerState};

@@ -29,11 +29,11 @@ pub fn workers_of(alloc: Global, job: &Job) -> Result<Items<WorkerAt>, NoMemory>
 
 fn push_workers(workers: &mut Items<WorkerAt>, node: u32, count: u32) -> Result<(), NoMemory>
     ensures { OnOk result (workers.new
-        ≡ workers.old ++ map (λ index. record { node = node; index = index })
+        ≡ workers.old ++ map (λ place. record { node = node; place = place })
         (range_with_len 0 count)) }
 {
-    for index in 0..count {
-        workers.push(WorkerAt { node, index })?;
+    for place in 0..count {
+        workers.push(WorkerAt { node, place })?;
     }
     Ok(())
 }

@@ -15,7 +15,7 @@ use tuple_trace::{Items, NoMemory, Tuple};
 #[derive(Clone, Copy, Debug, PartialEq, Eq)]
 pub struct WorkerAt {
     pub node: u32,
-    pub index: u32,
+    pub place: u32,
 }
 
 /// A lane: its edge, the worker that sends on it (`None` if the feeder does), and the worker that
@@ -93,9 +93,9 @@ impl Topology {
     /// feeder. Takes no memory.
     pub fn route(&self, job: &Job, sender: WorkerAt, port: u32, tuple: &Tuple) -> Option<u32>
         requires topology { self.now ≡ topology_of (job_view job.now) }
-        requires sender { sender.index < length (senders (job_view job.now) sender.node) }
+        requires sender { sender.place < length (senders (job_view job.now) sender.node) }
         ensures some { IfSome result (λ number. (from : Option ℕ)
-            → slice_get (senders (job_view job.now) sender.node) sender.index ≡ Some from
+            → slice_get (senders (job_view job.now) sender.node) sender.place ≡ Some from
             → IsNumberOf (job_view job.now)
             (lane_to (job_view job.now) from sender.node port tuple.now) number) }
         ensures none { IfNone result ((from : Option ℕ)
@@ -123,15 +123,15 @@ fn out_with(outs: &[OutEdge], port: u32) -> Option<&OutEdge>
 
 // The lane of a tuple along an edge.
 fn lane_by(job: &Job, out: &OutEdge, sender: WorkerAt, tuple: &Tuple) -> u32
-    requires sender { sender.index < length (senders (job_view job.now) sender.node) }
+    requires sender { sender.place < length (senders (job_view job.now) sender.node) }
     requires there { (edge : EdgeIs) × (slice_get (job_view job.now).edges out.now.edge ≡ Some edge)
         × (edge.from ≡ sender.node) × (out.now ≡ out_edge (job_view job.now) (out.now.edge, edge)) }
     ensures { (from : Option ℕ)
-        → slice_get (senders (job_view job.now) sender.node) sender.index ≡ Some from
+        → slice_get (senders (job_view job.now) sender.node) sender.place ≡ Some from
         → (edge : EdgeIs) → slice_get (job_view job.now).edges out.now.edge ≡ Some edge
         → IsNumberOf (job_view job.now)
         (lane_along (job_view job.now) from (Some (out.now.edge, edge)) tuple.now) result }
 {
     let receiver = lane_of(job, out.edge, tuple);
-    out.first_lane + sender.index * out.receivers + receiver
+    out.first_lane + sender.place * out.receivers + receiver
 }

@@ -13,6 +13,13 @@ use operators::{Func, Outs, Visited};
 use std::alloc::Global;
 use tuple_trace::{NoMemory, Tuple, Visit};
 
+/// A worker, and the function that is in force at it.
+#[derive(Clone, Copy)]
+pub struct WorkerFunc<'f> {
+    pub at: WorkerAt,
+    pub func: &'f Func,
+}
+
 /// What a worker has in force. An executor, a replay and a running worker hold it alike.
 #[derive(Debug, Drop)]
 pub struct WorkerState {
@@ -58,7 +65,7 @@ impl WorkerState {
         ensures err_outs { OnErr result (outs.new ≡ outs.old) }
     {
         let func = func_of(setup, at.node, self.func);
-        self.process_by(alloc, setup, func, at, tuple, outs)
+        self.process_by(alloc, setup, WorkerFunc { at, func }, tuple, outs)
     }
 
     /// Does what [`WorkerState::process`] does, where the caller has looked up the function in
@@ -68,32 +75,31 @@ impl WorkerState {
         &mut self,
         alloc: Global,
         setup: &Setup,
-        func: &Func,
-        at: WorkerAt,
+        by: WorkerFunc<'_>,
         tuple: &Tuple,
         outs: &mut Outs,
     ) -> Result<(), NoMemory>
-        requires node { at.node < length (setup_view setup.now).job.nodes }
-        requires func { IsInForce (setup_view setup.now) at.node self.old.func func.now }
-        ensures state { OnOk result (IsProcessed (setup_view setup.now) at tuple.now self.old
-            self.new) }
-        ensures outs { OnOk result (AreMade (setup_view setup.now) at tuple.now self.old outs.old
-            outs.new) }
+        requires node { by.at.node < length (setup_view setup.now).job.nodes }
+        requires func { IsInForce (setup_view setup.now) by.at.node self.old.func by.func.now }
+        ensures state { OnOk result (IsProcessed (setup_view setup.now) by.entry.at tuple.now
+            self.old self.new) }
+        ensures outs { OnOk result (AreMade (setup_view setup.now) by.entry.at tuple.now self.old
+            outs.old outs.new) }
         ensures kept { OnOk result (self.new ≡ record self.old { counts = self.new.counts }) }
         ensures err { OnErr result (self.new ≡ self.old) }
         ensures err_outs { OnErr result (outs.new ≡ outs.old) }
     {
         let visit = Visit {
-            node: at.node,
-            worker: at.index,
+            node: by.at.node,
+            worker: by.at.place,
             last: self.last,
         };
         let here = Visited {
             job: &setup.job,
-            ports: setup.ports(at.node),
+            ports: setup.ports(by.at.node),
             visit,
         };
-        here.apply(alloc, func, &mut self.counts, tuple, outs)
+        here.apply(alloc, by.func, &mut self.counts, tuple, outs)
     }
 
     /// Turns for a request at a node: its change of the node, if there is one, comes into force.

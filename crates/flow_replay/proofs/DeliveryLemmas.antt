@@ -4,7 +4,7 @@ use Rattle.std.specs.Prelude.{Contains, slice_get}
 use Rattle.std.specs.List.{AllByRecursion, cons_option}
 use Rattle.std.proofs.lemmas.Bool.{eq-eqb, eqb-false, eqb-true}
 use Rattle.std.proofs.lemmas.List.{append-nil}
-use Rattle.std.proofs.lemmas.Option.{get_or_from_slice_get, same_Some, slice_get_within}
+use Rattle.std.proofs.lemmas.Option.{get_or_from_slice_get, same_Some}
 use Rattle.flow_dag.specs.declared.edge.Edge.{Edge}
 use Rattle.jobs.specs.Law.{IsLawful}
 use Rattle.jobs.specs.JobView.{JobView}
@@ -26,7 +26,7 @@ use Rattle.flow_replay.specs.declared.worker_run.WorkerRun.{WorkerRun}
 use Rattle.flow_replay.specs.inner.Runs.{IsConserved, IsQuiescentFrom, IsStep, run_at, from_node, journal_at, run_view, made_at, with_item}
 use Rattle.flow_model.specs.Topology.{IsNumberOf}
 use Rattle.flow_replay.specs.inner.Delivery.{IsDelivered, IsMeeting, IsOfRow, IsInFlight, Meets, rank_behind}
-use Rattle.flow_model.proofs.LaneNumbers.{is_lane_of, receiver_node, receiver_there}
+use Rattle.flow_model.proofs.LaneNumbers.{is_lane_of, receiver_below, receiver_node, receiver_there}
 use Rattle.flow_model.proofs.WorkerPlaces.{node_below, nth_worker-get}
 use Rattle.flow_replay.proofs.ConservationLemmas.{in_force_step, meet_conserved, mine, out_puts}
 
@@ -41,11 +41,6 @@ pub record IsRanked (job : JobView) (rank : ℕ → ℕ) : Type 0 where
 pub lane_there : (job : JobView) (n : ℕ) (lane : Lane) → slice_get (lanes job) n ≡ Some lane →
     lane_at job n ≡ lane
 lane_there job n lane e = get_or_from_slice_get (lanes job) n lane no_lane e
-
-pub receiver_below : (job : JobView) (n : ℕ) (lane : Lane) → slice_get (lanes job) n
-    ≡ Some lane → lane.receiver < length (workers_in job)
-receiver_below job n lane e = let is = lane_is job n lane e in slice_get_within (workers_in job)
-    lane.receiver is.to (receiver_there job lane is)
 
 pub receiver_number : (job : JobView) (n : ℕ) (lane : Lane) → slice_get (lanes job) n
     ≡ Some lane → (nth_worker job lane.receiver).number ≡ lane.receiver

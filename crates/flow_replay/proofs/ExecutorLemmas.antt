@@ -50,12 +50,12 @@ step_set setup w entry runs new lt journal view =
 
 -- a route by an equal setup
 pub along_is : (now setup : Setup) (at : WorkerAt) (w next port : ℕ) (tuple : Tuple) →
-    now ≡ setup → slice_get (senders (job_view setup.job) at.node) at.index ≡ Some (Some w) →
-    ((from : Option ℕ) → slice_get (senders (job_view now.job) at.node) at.index ≡ Some from →
+    now ≡ setup → slice_get (senders (job_view setup.job) at.node) at.place ≡ Some (Some w) →
+    ((from : Option ℕ) → slice_get (senders (job_view now.job) at.node) at.place ≡ Some from →
     IsNumberOf (job_view now.job) (lane_of (job_view now.job) from at.node port tuple) next) →
     IsNumberOf (job_view setup.job) (lane_of (job_view setup.job) (Some w) at.node port tuple) next
 along_is now setup at w next port tuple same sends some =
     subst (λ (s : Setup). (from : Option ℕ) →
-    slice_get (senders (job_view s.job) at.node) at.index ≡ Some from →
+    slice_get (senders (job_view s.job) at.node) at.place ≡ Some from →
     IsNumberOf (job_view s.job) (lane_of (job_view s.job) from at.node port tuple) next) same some
     (Some w) sends

@@ -1,47 +1,23 @@
 -- What a journal gains keeps the law: meetings, turns and ends.
-use Rattle.std.proofs.Common.{◌≡◌, ◌<◌, ◌+◌, ◌-◌, ◌==◌, ◌&&◌, ◌⊎◌, ℕ, zero, suc, List, [], ◌∷◌, ◌++◌, inl, inr, Bool, true, false, cond, length, map, Some, refl, sym, ap, subst, ◌∙◌, arith}
-use Rattle.std.specs.Prelude.{Contains, filter, slice_get}
-use Rattle.std.specs.List.{AllByRecursion, enumerate_from}
-use Rattle.std.proofs.lemmas.Option.{same_Some}
+use Rattle.std.proofs.Common.{◌≡◌, ◌<◌, ◌+◌, ◌-◌, ◌==◌, ◌&&◌, ◌⊎◌, ℕ, zero, suc, List, [], ◌∷◌, ◌++◌, inl, inr, Bool, true, false, cond, length, map, refl, sym, ap, subst, ◌∙◌, arith}
+use Rattle.std.specs.Prelude.{Contains, filter}
+use Rattle.std.specs.List.{AllByRecursion}
 use Rattle.sink_journal.specs.declared.journal.Entry.{Entry}
 use Rattle.sink_journal.specs.declared.journal.Entry.TheVariants as entry
 use Rattle.tuple_trace.specs.declared.tuple.Tuple.{Tuple}
-use Rattle.jobs.specs.JobView.{JobView}
 use Rattle.flow_model.specs.Covers.{covers, covers_edge}
-use Rattle.flow_model.specs.Lanes.{lanes, lanes_in, lanes_that, marked_lanes}
+use Rattle.flow_model.specs.Lanes.{lanes_in, marked_lanes}
 use Rattle.flow_model.specs.Law.{IsExecution, IsFinished, IsInTime, Progress, Duties, initial, next_due, progress_after}
 use Rattle.flow_model.specs.declared.topology.Lane.{Lane}
 use Rattle.flow_model.specs.SetupView.{SetupView, Worker}
 use Rattle.flow_model.specs.Duties.{numbers_from, duties}
-use Rattle.flow_model.proofs.ElementLemmas.{AreDistinct, IsIn, all_of_at, contains_of_in, distinct_filter, distinct_map, in_filter, in_of_contains}
+use Rattle.flow_model.proofs.ElementLemmas.{AreDistinct, IsIn, all_of_at, contains_of_in, in_of_contains}
 use Rattle.flow_model.proofs.JournalLemmas.{IsExecution-append, progress_after-append}
-use Rattle.flow_model.proofs.LaneLemmas.{enumerate_distinct, in_enumerate}
+use Rattle.flow_model.proofs.LaneLemmas.{lanes_that-distinct}
 use Rattle.flow_replay.specs.inner.Runs.{end_block, marks, turn_block, turn_entries}
 use Rattle.flow_replay.specs.inner.SoFar.{waiting}
 use Rattle.flow_replay.specs.inner.Delivery.{IsMeeting}
 use Rattle.flow_model.specs.Workers.{nth_worker}
-
--- ---- the numbers of lanes
-
-pub lanes_that-distinct : (test : Lane → Bool) (job : JobView) → AreDistinct (lanes_that test job)
-lanes_that-distinct test job = distinct_map (λ (p : ℕ × Lane). p.0) passing one (distinct_filter (λ
-    (p : ℕ × Lane). test p.1) (enumerate_from 0 (lanes job)) (enumerate_distinct (lanes job)))
-  where
-    passing : List (ℕ × Lane)
-    passing = filter (λ (p : ℕ × Lane). test p.1) (enumerate_from 0 (lanes job))
-
-    there : (p : ℕ × Lane) → IsIn p passing → slice_get (lanes job) p.0 ≡ Some p.1
-    there p i =
-        let (k, at, is) = in_enumerate 0 (lanes job) p (in_filter (λ (p : ℕ × Lane). test p.1) p
-        (enumerate_from 0 (lanes job)) i).0 in
-        let number : k ≡ p.0 = omega (arith, at) in
-        subst (λ (n : ℕ). slice_get (lanes job) n ≡ Some p.1) number is
-
-    one : (p q : ℕ × Lane) → IsIn p passing → IsIn q passing → p.0 ≡ q.0 → p ≡ q
-    one p q i j e =
-        let same : p.1 ≡ q.1 = same_Some p.1 q.1 (sym (there p i)
-        ∙ (ap (slice_get (lanes job)) e ∙ there q j)) in
-        λ i. (e i, same i)
 
 -- ---- meetings
 

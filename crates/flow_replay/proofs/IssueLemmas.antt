@@ -1,7 +1,7 @@
 -- Which requests are issued after a row, and what the feeder does.
 use Rattle.std.proofs.Common.{◌≡◌, ◌<◌, ◌≤◌, ◌+◌, ◌-◌, ◌==◌, ℕ, zero, suc, List, [], ◌∷◌, ◌++◌, inl, inr, Bool, false, cond, length, drop, min, Some, refl, sym, ap, ◌∙◌, arith, append_assoc}
 use Rattle.std.specs.Prelude.{nat_le, slice_get}
-use Rattle.std.proofs.lemmas.Bool.{cases_lt, eq-eqb, le-leb, lt-leb, ne_eqb}
+use Rattle.std.proofs.lemmas.Bool.{cases_lt, le-leb, lt-leb, ne_eqb}
 use Rattle.std.proofs.lemmas.List.{append-nil, drop_all}
 use Rattle.std.proofs.lemmas.Option.{same_Some, slice_get-get_or, slice_get_within}
 use Rattle.sink_journal.specs.declared.journal.Feed.{Feed}
@@ -12,6 +12,7 @@ use Rattle.flow_model.specs.Feeding.{feed_after, feed_from, issued_after, issued
 use Rattle.flow_model.specs.SetupView.{SetupView}
 use Rattle.flow_model.specs.Requests.{afters}
 use Rattle.flow_model.proofs.FreshLemmas.{order_rises}
+use Rattle.flow_model.proofs.IssueLemmas.{eqb_le, get-drop, issued-agree, issued-none}
 use Rattle.flow_model.proofs.PlaceLemmas.{map_place}
 use Rattle.flow_replay.specs.inner.SoFar.{AreIssuedBefore, issues}
 use Rattle.flow_model.proofs.TopologyLemmas.{drop-at}
@@ -28,12 +29,6 @@ waits-rise row requests i j a b order le ea eb =
 
 -- ---- what is issued
 
-pub issued-none : (test : ℕ → Bool) (rows r : ℕ) (waits : List ℕ) → ((i a : ℕ) →
-    slice_get waits i ≡ Some a → test (min a rows) ≡ false) → issued_where test rows r waits ≡ []
-issued-none test rows r [] h = refl
-issued-none test rows r (a ∷ more) h = rw (h 0 a refl) (issued-none test rows (r + 1) more (λ i b e.
-    h (suc i) b e))
-
 -- the first ones fail the test
 issued-skip : (test : ℕ → Bool) (rows r n : ℕ) (waits : List ℕ) → n ≤ length waits → ((i a : ℕ) →
     slice_get waits i ≡ Some a → i < n → test (min a rows) ≡ false)
@@ -46,30 +41,6 @@ issued-skip test rows r (suc n) (a ∷ more) le h =
     rw (h 0 a refl (omega arith)) (issued-skip test rows (r + 1) n more (omega (arith, le)) (λ i b e
     lt. h (suc i) b e (omega (arith, lt))) ∙ ap (λ (k : ℕ). issued_where test rows k (drop n
     more)) z)
-
--- two tests that agree
-issued-agree : (t u : ℕ → Bool) (rows r : ℕ) (waits : List ℕ) → ((i a : ℕ) → slice_get waits i
-    ≡ Some a → t (min a rows) ≡ u (min a rows)) → issued_where t rows r waits
-    ≡ issued_where u rows r waits
-issued-agree t u rows r [] h = refl
-issued-agree t u rows r (a ∷ more) h =
-    ap (λ (b : Bool). cond b (feed.Issued r ∷ issued_where t rows (r + 1) more) (issued_where t rows
-    (r + 1) more)) (h 0 a refl)
-    ∙ ap (λ (l : List Feed). cond (u (min a rows)) (feed.Issued r ∷ l) l) (issued-agree t u rows (r
-    + 1) more (λ i b e. h (suc i) b e))
-
-pub get-drop : (n i a : ℕ) (waits : List ℕ) → slice_get (drop n waits) i ≡ Some a →
-    slice_get waits (n + i) ≡ Some a
-get-drop zero i a waits e = let z : i ≡ 0 + i = omega arith in ap (slice_get waits) (sym z) ∙ e
-get-drop (suc n) i a [] e = absurd (cc)
-get-drop (suc n) i a (x ∷ xs) e = let z : suc n + i
-    ≡ suc (n + i) = omega arith in ap (slice_get (x ∷ xs)) z ∙ get-drop n i a xs e
-
-eqb_le : (a row : ℕ) → row ≤ a → (a == row) ≡ nat_le a row
-eqb_le a row h = elim (cases_lt row a) [
-  | inl lt ↦ ne_eqb a row (λ e. absurd (omega (arith, lt, e))) ∙ sym (lt-leb a row lt)
-  | inr ge ↦ eq-eqb a row (omega (arith, h, ge)) ∙ sym (le-leb a row ge)
-]
 
 -- the requests that wait for a row are the next ones
 pub issued_after-issues : (setup : SetupView) (rows row issued : ℕ) →

@@ -28,11 +28,10 @@ use Rattle.flow_replay.specs.inner.SoFar.{AreEmpty, IsSoFar, count_issued, waiti
 use Rattle.flow_replay.specs.inner.Delivery.{IsFed}
 use Rattle.flow_model.proofs.CoverLemmas.{AreCovering}
 use Rattle.flow_replay.proofs.FollowLemmas.{meetings-follow, turn-follows}
-use Rattle.flow_model.proofs.LaneNumbers.{is_lane_of}
+use Rattle.flow_model.proofs.LaneNumbers.{is_lane_of, receiver_below}
 use Rattle.flow_model.proofs.WorkerPlaces.{worker_at}
 use Rattle.flow_replay.proofs.ConservationLemmas.{sent_by}
 use Rattle.flow_replay.proofs.TurnLemmas.{is_sending, turns_conserve}
-use Rattle.flow_replay.proofs.DeliveryLemmas.{receiver_below}
 
 -- ---- what was fed
 

@@ -6,8 +6,6 @@ use Rattle.flow_replay.specs.inner.Delivery.{rank_in}
 use Rattle.flow_replay.proofs.DeliveryLemmas.{IsRanked}
 use Rattle.flow_model.proofs.CoverLemmas.{AreCovering, covering}
 use Rattle.flow_model.specs.Setup.{setup_view}
-use Rattle.versions.specs.Kept.{AreInOrder}
-use Rattle.versions.proofs.KeptLemmas.{accepted-order}
 use Rattle.flow_replay.proofs.RankLemmas.{rank-below, rank-forward}
 
 pub ranked : (setup : Setup) → IsRanked (job_view setup.job) (rank_in setup)
@@ -18,6 +16,3 @@ ranked setup = record {
 
 pub covered : (setup : Setup) → AreCovering (setup_view setup)
 covered setup = covering (setup_view setup) setup.job.lawful setup.planned
-
-pub in_order : (setup : Setup) → AreInOrder 0 (setup_view setup).requests
-in_order setup = accepted-order (job_view setup.job) setup.judged.accepted setup.accepted

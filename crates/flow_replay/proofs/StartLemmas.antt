@@ -1,9 +1,7 @@
 -- The state of a worker at a start.
 use Rattle.std.proofs.Common.{◌≡◌, ◌∙◌, ◌<◌, ℕ, Some, length, subst, sym, ap}
-use Rattle.std.specs.Prelude.{option_map}
 use Rattle.std.proofs.lemmas.Option.{same_Some}
 use Rattle.jobs.specs.declared.func.Func.{Func}
-use Rattle.jobs.specs.declared.func.NodeDef.{NodeDef}
 use Rattle.keyed_state.specs.Counts.{Counts}
 use Rattle.flow_model.specs.Begin.{Begin, last_after}
 use Rattle.flow_model.specs.InForce.{func_in}
@@ -14,15 +12,8 @@ use Rattle.flow_model.specs.WorkerState.{found_or, func_at, state_view}
 use Rattle.flow_model.specs.Workers.{nth_worker, workers_in}
 use Rattle.flow_model.specs.declared.in_force.InForce.{InForce}
 use Rattle.flow_model.specs.declared.in_force.InForce.TheVariants.{Own, Changed}
-use Rattle.flow_model.proofs.WorkerPlaces.{worker_at}
+use Rattle.flow_model.proofs.WorkerPlaces.{own_func}
 use Rattle.flow_replay.specs.Sent.{begun_counts, begun_view}
-
--- the function of a worker is that of the job at first
-own_func : (setup : SetupView) (w : ℕ) → w < length (workers_in setup.job) →
-    func_in setup (nth_worker setup.job w).node Own ≡ Some (nth_worker setup.job w).func
-own_func setup w there =
-    let is = (worker_at setup.job w there).1 in
-    ap (option_map (λ (def : NodeDef). def.func)) is.node_is ∙ ap Some (sym is.func_is)
 
 -- the function that stands there is the worker's
 func_there : (setup : SetupView) (who : Worker) (at : InForce) (func : Func) →

@@ -30,10 +30,10 @@ use Rattle.flow_replay.specs.inner.Runs.{AllGain, AreOpen, empty_run, end_block,
 use Rattle.flow_replay.specs.inner.SoFar.{IsSoFar, count_issued, left_by}
 use Rattle.flow_model.proofs.CoverLemmas.{AreCovering}
 use Rattle.flow_replay.proofs.FollowLemmas.{finishes}
+use Rattle.flow_model.proofs.LaneNumbers.{receiver_below}
 use Rattle.flow_model.proofs.WorkerPlaces.{get-nth_worker, nth_worker-get, worker_at}
 use Rattle.flow_replay.proofs.ConservationLemmas.{sent_by}
 use Rattle.flow_replay.proofs.TurnLemmas.{IsSending, is_sending, sent_ended, shown_ended}
-use Rattle.flow_replay.proofs.DeliveryLemmas.{receiver_below}
 use Rattle.flow_replay.proofs.RunLemmas.{fed_puts-append}
 
 pub at_run : {A : Type 0} (f : WorkerRun → A) (runs : List WorkerRun) (w : ℕ) (x : A) →

@@ -20,16 +20,15 @@ use Rattle.flow_model.specs.Replay.{StateView, Put, after, after_all, came_in, i
 use Rattle.flow_model.specs.Workers.{nth_worker, workers_in}
 use Rattle.flow_model.proofs.ElementLemmas.{AreDistinct, IsIn, distinct_filter, filter_in, in_filter}
 use Rattle.flow_model.proofs.JournalLemmas.{sent-append, shown-append}
-use Rattle.flow_model.proofs.LaneLemmas.{LaneIs, in_lanes_that, lane_is, lanes_that_in, sender_source, sender_worker}
+use Rattle.flow_model.proofs.LaneLemmas.{LaneIs, in_lanes_that, lane_is, lanes_that-distinct, lanes_that_in, sender_source, sender_worker}
 use Rattle.flow_replay.specs.declared.worker_run.WorkerRun.{WorkerRun}
 use Rattle.flow_replay.specs.inner.Runs.{AllGain, IsConserved, end_block, first_view, journal_at, marks, nothing, put_so_far, turn_block, turn_entries}
 use Rattle.flow_model.proofs.CoverLemmas.{AreCovering}
-use Rattle.flow_replay.proofs.FollowLemmas.{ended_all, lanes_that-distinct}
-use Rattle.flow_model.proofs.LaneNumbers.{receiver_node}
+use Rattle.flow_replay.proofs.FollowLemmas.{ended_all}
+use Rattle.flow_model.proofs.LaneNumbers.{receiver_below, receiver_node}
 use Rattle.flow_model.proofs.WorkerPlaces.{nth_worker-get}
 use Rattle.flow_model.proofs.OutLanes.{goes_out, none_on, one_on, out_distinct}
 use Rattle.flow_replay.proofs.ConservationLemmas.{sent_by}
-use Rattle.flow_replay.proofs.DeliveryLemmas.{receiver_below}
 
 -- ---- items on each of several lanes
 

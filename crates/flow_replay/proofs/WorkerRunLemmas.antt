@@ -28,8 +28,8 @@ use Rattle.flow_model.proofs.WorkerPlaces.{get-nth_worker}
 -- ---- where a worker is
 
 pub worker_sends : (job : JobView) (w : ℕ) (at : WorkerAt) → w < length (workers_in job) → at
-    ≡ worker_of (nth_worker job w) → slice_get (senders job at.node) at.index ≡ Some (Some w)
-worker_sends job w at lt is = subst (λ (a : WorkerAt). slice_get (senders job a.node) a.index
+    ≡ worker_of (nth_worker job w) → slice_get (senders job at.node) at.place ≡ Some (Some w)
+worker_sends job w at lt is = subst (λ (a : WorkerAt). slice_get (senders job a.node) a.place
     ≡ Some (Some w)) (sym is) (sends job w (nth_worker job w) (get-nth_worker job w lt))
 
 -- ---- lanes in

@@ -90,7 +90,7 @@ impl<'a> Executor<'a> {
         tuple.issued = self.issued as u64;
         let feeder = WorkerAt {
             node: row.source,
-            index: 0,
+            place: 0,
         };
         match self.setup.route(feeder, 0, &row.tuple) {
             Some(lane) => self.deliver(lane, tuple)?,

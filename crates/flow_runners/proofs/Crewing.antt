@@ -85,7 +85,7 @@ each_all P (x ∷ xs) all = (All-head P x xs all, each_all P xs (All-tail P x xs
 
 pub few_workers : (setup : Setup) (begin : Begin) (w : WorkerIs) → IsWorker (setup_view setup) begin w → w.number < 64
 few_workers setup begin w law =
-    let within = slice_get_within (workers_in (job_view setup.job)) w.number law.who law.placed.who_is in
+    let within = slice_get_within (workers_in (job_view setup.job)) w.number law.who law.placed.stands.who_is in
     let few = workers-few (job_view setup.job) setup.job.lawful in omega (arith, within, few)
 
 abbrev with_number : ℕ → WorkerIs → RunnerIs

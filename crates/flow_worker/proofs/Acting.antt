@@ -27,7 +27,7 @@ use Rattle.flow_worker.specs.Endpoints.{LaneInIs}
 use Rattle.flow_model.specs.Dues.{AreDues, IsDueOf}
 use Rattle.flow_worker.specs.Worker.{IsPlaced, IsWorker, WorkerIs, edges_of, hands, progress_now}
 use Rattle.flow_worker.specs.Turning.{HasDone}
-use Rattle.flow_worker.proofs.Pairs.{get_mapped}
+use Rattle.sink_journal.proofs.SmallLemmas.{get_mapped}
 use Rattle.flow_worker.proofs.Marking.{HoldMarker}
 use Rattle.flow_model.proofs.HeadLemmas.{head_unentered}
 use Rattle.flow_worker.proofs.PlaceLemmas.{in_end, in_receives}
@@ -52,14 +52,14 @@ pub head_places : (setup : SetupView) (who : WorkerOf) (w : WorkerIs) (due : Due
 head_places setup who w due planned placed is head k a g b =
     let i = in_of_place a w.ins k g in
     let e = in_end setup who w placed a i in
-    let into : LaneIn setup.job who a.number = lane_into setup.job who a.number e.lane (worker_with setup.job w.number who placed.who_is).1 e.numbered (in_receives setup who w placed a i e) in
+    let into : LaneIn setup.job who a.number = lane_into setup.job who a.number e.lane (worker_with setup.job w.number who placed.stands.who_is).1 e.numbered (in_receives setup who w placed a i e) in
     let x = into.numbered in
     let y = e.numbered in
     let same : into.lane ≡ e.lane = cc in
     let edge : into.lane.edge ≡ a.edge = ap (λ (l : Lane). l.edge) same ∙ sym e.edge_is in
     let at : slice_get setup.job.edges a.edge ≡ Some into.edge = subst (λ m. slice_get setup.job.edges m ≡ Some into.edge) edge into.edge_is in
     let covered : covers_edge setup due.request a.edge ≡ true = sym (is.lanes k a.edge (get_mapped (λ (a : LaneInIs). a.edge) w.ins k a g)) ∙ b in
-    let uncovered : covers_edge setup due.request a.edge ≡ false = head_unentered setup planned due.request w.node a.edge into.edge (sym is.head ∙ head) at (into.to ∙ sym placed.node_is) in
+    let uncovered : covers_edge setup due.request a.edge ≡ false = head_unentered setup planned due.request w.node a.edge into.edge (sym is.head ∙ head) at (into.to ∙ sym placed.stands.node_is) in
     absurd (cc)
 
 pub turn_held : (setup : SetupView) (who : WorkerOf) (w : WorkerIs) (due : Due) (posted : Bool) → ∥ IsPlanned setup ∥₁ → IsPlaced setup who w → IsDueOf setup w.node (edges_of w.ins) due
@@ -95,18 +95,18 @@ done_law setup begin w v act posted keeps planned h open_ is done = go w.due ref
     go None e (Turn r) is done = absurd done
     go None e (Process place) is done =
         keeps_process setup begin keeps place w v h open_ done
-        (in_time setup begin h.who w None (progress_now setup begin h.who w.journal).dues posted place done.at done.tuple h.placed.node_is
-        (subst (AreDues setup w.node (progress_now setup begin h.who w.journal).dues) e h.dues_are) tt (sym is) done.here done.held)
+        (in_time setup begin h.who w None (progress_now setup begin h.who w.journal).dues posted place done.at done.tuple h.placed.stands.node_is
+        (subst (AreDues setup w.node (progress_now setup begin h.who w.journal).dues) e h.due.dues_are) tt (sym is) done.here done.held)
     go None e Close is done = keeps_close setup begin keeps w v h open_ e (all_last w.ins (closes_if (hands w) None posted w.next (sym is)).1) done
     go None e Nothing is done = absurd done
     go (Some due) e (Turn r) is done =
-        let its : IsDueOf setup w.node (edges_of w.ins) due = subst (λ (o : Option Due). IfSome o (IsDueOf setup w.node (edges_of w.ins))) e h.due_is in
+        let its : IsDueOf setup w.node (edges_of w.ins) due = subst (λ (o : Option Due). IfSome o (IsDueOf setup w.node (edges_of w.ins))) e h.due.due_is in
         turned_law setup begin keeps due w h open_ e (turn_held setup h.who w due posted planned h.placed its (turns_if (hands w) due posted w.next r (sym is)).0) v done
     go (Some due) e (Process place) is done =
         keeps_process setup begin keeps place w v h open_ done
-        (in_time setup begin h.who w (Some due) (progress_now setup begin h.who w.journal).dues posted place done.at done.tuple h.placed.node_is
-        (subst (AreDues setup w.node (progress_now setup begin h.who w.journal).dues) e h.dues_are)
-        (subst (λ (o : Option Due). IfSome o (IsDueOf setup w.node (edges_of w.ins))) e h.due_is) (sym is) done.here done.held)
+        (in_time setup begin h.who w (Some due) (progress_now setup begin h.who w.journal).dues posted place done.at done.tuple h.placed.stands.node_is
+        (subst (AreDues setup w.node (progress_now setup begin h.who w.journal).dues) e h.due.dues_are)
+        (subst (λ (o : Option Due). IfSome o (IsDueOf setup w.node (edges_of w.ins))) e h.due.due_is) (sym is) done.here done.held)
     go (Some due) e Close is done =
         let q = (closes_if (hands w) (Some due) posted w.next (sym is)).0 in
         absurd (cc)

@@ -1,7 +1,8 @@
 -- A worker at the beginning of a run.
 use Rattle.std.proofs.Common.{◌≡◌, ◌∙◌, ◌++◌, ◌<◌, ◌≤◌, ℕ, inl, inr, List, [], ◌∷◌, Bool, true, false, map, length, refl, sym, ap, subst, arith, Option, Some, None, slice_get}
 use Rattle.std.specs.FinMap.{empty}
-use Rattle.std.specs.Prelude.{IfSome, option_map}
+use Rattle.std.specs.Prelude.{IfSome}
+use Rattle.std.proofs.lemmas.List.{length-map}
 use Rattle.std.proofs.lemmas.Option.{same_Some, slice_get_within}
 use Rattle.std.proofs.lemmas.Simd.{map-map}
 use Rattle.flow_dag.specs.declared.edge.Edge.{Edge}
@@ -9,7 +10,6 @@ use Rattle.flow_dag.specs.declared.graph.Graph.{Graph}
 use Rattle.jobs.specs.Law.{IsLawful}
 use Rattle.jobs.specs.JobView.{JobView}
 use Rattle.jobs.specs.declared.func.Func.{Func}
-use Rattle.jobs.specs.declared.func.NodeDef.{NodeDef}
 use Rattle.keyed_state.specs.Counts.{Counts}
 use Rattle.lane_core.specs.Steady.{IsSteady}
 use Rattle.lane_core.specs.declared.form.Origin.{Origin}
@@ -29,8 +29,7 @@ use Rattle.flow_model.specs.Duties.{dues_after}
 use Rattle.flow_model.specs.Workers.{nth_worker, workers_in}
 use Rattle.flow_model.proofs.ElementLemmas.{IsIn}
 use Rattle.flow_model.proofs.LaneLemmas.{in_lanes_that, lane_is, sender_is}
-use Rattle.flow_model.proofs.WorkerPlaces.{get-nth_worker}
-use Rattle.flow_model.proofs.WorkerLemmas.{worker_with}
+use Rattle.flow_model.proofs.WorkerPlaces.{get-nth_worker, own_func}
 use Rattle.flow_model.proofs.FewLanes.{few_lanes, some_lane}
 use Rattle.flow_model.proofs.LaneLemmas.{sender_worker}
 use Rattle.flow_model.specs.declared.in_force.InForce.{InForce}
@@ -42,9 +41,10 @@ use Rattle.flow_worker.specs.Endpoints.{LaneInIs, LaneOutIs, in_hand, planned}
 use Rattle.flow_worker.specs.Parts.{AreNewEndpoints, IsStateAt, endpoint_in, endpoint_out}
 use Rattle.lane_core.specs.Lane.{EndpointIs}
 use Rattle.flow_model.specs.NewEndpoint.{IsNewEndpoint}
-use Rattle.flow_worker.specs.Worker.{IsEndpointIn, IsEndpointOut, IsOnLane, IsPlaced, IsWorker, Sends, ShowsTaken, WorkerIs, view_now, lane_numbers_in, lane_numbers_out, progress_now}
+use Rattle.flow_worker.specs.Worker.{IsEndpointIn, IsEndpointOut, IsOnLane, IsPlaced, IsWorker, Sends, ShowsTaken, WorkerIs, view_now, lane_numbers_in, lane_numbers_out, progress_now, IsAtPlace}
 use Rattle.flow_worker.proofs.PlaceLemmas.{placed_edges}
-use Rattle.flow_worker.proofs.Pairs.{each_map, each_of, get_mapped, length_mapped}
+use Rattle.sink_journal.proofs.SmallLemmas.{get_mapped}
+use Rattle.flow_worker.proofs.Pairs.{each_map, each_of}
 
 -- ---- the law
 
@@ -71,21 +71,31 @@ begins_from setup begin who w placed n =
       begun = n.begun;
       begun_is = n.begun_is;
       lawful = subst (λ (j : List Entry). IsLawfulFrom setup begin who j) (sym n.journal) (record { execution = tt; no_open_turn = refl });
-      func_is = n.func ∙ ap (λ (j : List Entry). Some (view_now setup begin who n.begun j).func) (sym n.journal);
-      counts_is = n.counts ∙ ap (λ (j : List Entry). (view_now setup begin who n.begun j).counts) (sym n.journal);
-      last_is = n.last ∙ ap (λ (j : List Entry). (view_now setup begin who n.begun j).last) (sym n.journal);
-      takes = subst (λ (j : List Entry). EachOne (ShowsTaken setup j) w.ins) (sym n.journal) (each_map (λ (a : LaneInIs). (a.taken ≡ []) × (a.hand ≡ Empty)) (ShowsTaken setup []) w.ins (λ a h. h.0 ∙ ap in_hand (sym h.1)) n.taken);
-      steady_in = each_map (λ (a : LaneInIs). (a.taken ≡ []) × (a.hand ≡ Empty)) (λ (a : LaneInIs). IsSteady a.origin a.taken) w.ins (λ a h. subst (IsSteady a.origin) (sym h.0) (IsSteady-nil a.origin)) n.taken;
-      sends = subst (λ (j : List Entry). EachOne (Sends setup begin who n.begun j) w.outs) (sym n.journal)
-          (each_map (λ (out : LaneOutIs). (out.sent ≡ []) × (out.waiting ≡ [])) (Sends setup begin who n.begun []) w.outs (λ out h lane g. nothing out h.0 h.1) n.sent);
-      steady_out = each_map (λ (out : LaneOutIs). (out.sent ≡ []) × (out.waiting ≡ [])) (λ (out : LaneOutIs). IsSteady out.origin (planned out)) w.outs (λ out h. subst (IsSteady out.origin) (sym (nothing out h.0 h.1)) (IsSteady-nil out.origin)) n.sent;
+      view = record {
+        func_is = n.func ∙ ap (λ (j : List Entry). Some (view_now setup begin who n.begun j).func) (sym n.journal);
+        counts_is = n.counts ∙ ap (λ (j : List Entry). (view_now setup begin who n.begun j).counts) (sym n.journal);
+        last_is = n.last ∙ ap (λ (j : List Entry). (view_now setup begin who n.begun j).last) (sym n.journal);
+      };
+      taken = record {
+        takes = subst (λ (j : List Entry). EachOne (ShowsTaken setup j) w.ins) (sym n.journal) (each_map (λ (a : LaneInIs). (a.taken ≡ []) × (a.hand ≡ Empty)) (ShowsTaken setup []) w.ins (λ a h. h.0 ∙ ap in_hand (sym h.1)) n.taken);
+        steady = each_map (λ (a : LaneInIs). (a.taken ≡ []) × (a.hand ≡ Empty)) (λ (a : LaneInIs). IsSteady a.origin a.taken) w.ins (λ a h. subst (IsSteady a.origin) (sym h.0) (IsSteady-nil a.origin)) n.taken;
+      };
+      sent = record {
+        sends = subst (λ (j : List Entry). EachOne (Sends setup begin who n.begun j) w.outs) (sym n.journal)
+            (each_map (λ (out : LaneOutIs). (out.sent ≡ []) × (out.waiting ≡ [])) (Sends setup begin who n.begun []) w.outs (λ out h lane g. nothing out h.0 h.1) n.sent);
+        steady = each_map (λ (out : LaneOutIs). (out.sent ≡ []) × (out.waiting ≡ [])) (λ (out : LaneOutIs). IsSteady out.origin (planned out)) w.outs (λ out h. subst (IsSteady out.origin) (sym (nothing out h.0 h.1)) (IsSteady-nil out.origin)) n.sent;
+      };
       turned_is = n.turned ∙ ap (λ (j : List Entry). length (turned j)) (sym n.journal);
-      dues_are = subst (λ (ds : List ℕ). AreDues setup w.node ds w.due) (ap (dues_after setup begin.turned) placed.node_is ∙ ap (λ (j : List Entry). (progress_now setup begin who j).dues) (sym n.journal)) n.due.dues;
-      due_is = subst (λ (es : List ℕ). IfSome w.due (IsDueOf setup w.node es)) (sym (placed_edges setup who w placed)) n.due.is_due;
-      few_turned = subst (λ m. IfSome w.due (λ (due : Due). m < due.request)) (sym n.turned) (counted w.due begin.turned n.due.later);
-      unended = λ c. ap (λ (j : List Entry). (progress_now setup begin who j).ended) n.journal;
-      finished = λ c. absurd (let e : true ≡ false = sym c ∙ n.closed in cc);
-      put_down = λ c. absurd (let e : true ≡ false = sym c ∙ n.closed in cc);
+      due = record {
+        dues_are = subst (λ (ds : List ℕ). AreDues setup w.node ds w.due) (ap (dues_after setup begin.turned) placed.stands.node_is ∙ ap (λ (j : List Entry). (progress_now setup begin who j).dues) (sym n.journal)) n.due.dues;
+        due_is = subst (λ (es : List ℕ). IfSome w.due (IsDueOf setup w.node es)) (sym (placed_edges setup who w placed)) n.due.is_due;
+        few_turned = subst (λ m. IfSome w.due (λ (due : Due). m < due.request)) (sym n.turned) (counted w.due begin.turned n.due.later);
+      };
+      closing = record {
+        unended = λ c. ap (λ (j : List Entry). (progress_now setup begin who j).ended) n.journal;
+        finished = λ c. absurd (let e : true ≡ false = sym c ∙ n.closed in cc);
+        put_down = λ c. absurd (let e : true ≡ false = sym c ∙ n.closed in cc);
+      };
     }
   where
     nothing : (out : LaneOutIs) → out.sent ≡ [] → out.waiting ≡ [] → planned out ≡ []
@@ -95,17 +105,10 @@ begins_from setup begin who w placed n =
     counted None k h = tt
     counted (Some due) k h = let l : k < due.request = h in omega (arith, l)
 
--- the function of a worker is that of the job at first
-pub own_func : (setup : SetupView) (w : ℕ) → w < length (workers_in setup.job) → func_in setup (nth_worker setup.job w).node Own ≡ Some (nth_worker setup.job w).func
-own_func setup w there =
-    let is = (worker_with setup.job w (nth_worker setup.job w) (get-nth_worker setup.job w there)).1 in
-    ap (option_map (λ (def : NodeDef). def.func)) is.node_is ∙ ap Some (sym is.func_is)
-
 -- the state of a worker where a beginning is
 pub state_at : (setup : SetupView) (begin : Begin) (w node turned last : ℕ) (at : InForce) (counts : Counts) → w < length (workers_in setup.job) → slice_get begin.states w ≡ Some counts → turned ≡ begin.turned → node ≡ (nth_worker setup.job w).node
     → ((func : Func) → func_in setup node Own ≡ Some func → func_in setup node at ≡ Some (func_after setup node func turned)) → last ≡ last_after setup (nth_worker setup.job w).node turned
-    → IsStateAt setup begin (record {
-      number = w;
+    → IsStateAt setup begin w (record {
       turned = turned;
       state = record { func = at; counts = counts; last = last; ended = 0 };
     })
@@ -122,8 +125,7 @@ state_at setup begin w node turned last at counts there c t n f l =
     }
 
 -- the state at the beginning of all
-pub first_state : (setup : SetupView) (w : ℕ) (counts : Counts) → w < length (workers_in setup.job) → counts ≡ empty → IsStateAt setup (at_first setup) (record {
-  number = w;
+pub first_state : (setup : SetupView) (w : ℕ) (counts : Counts) → w < length (workers_in setup.job) → counts ≡ empty → IsStateAt setup (at_first setup) w (record {
   turned = 0;
   state = record { func = Own; counts = counts; last = 0; ended = 0 };
 })
@@ -177,9 +179,7 @@ ends_out setup graph w node who (a ∷ more) there n f o e =
 
 -- what is put together stands where its ends belong
 pub record IsMade (job : JobView) (who : WorkerOf) (w : WorkerIs) : Type 0 where
-  pub who_is : slice_get (workers_in job) w.number ≡ Some who
-  pub node_is : w.node ≡ who.node
-  pub place_is : w.place ≡ who.place
+  pub stands : IsAtPlace job who w.number w.node w.place
   pub on_lanes : EachOne (λ (a : LaneInIs). IsOnLane job a.number a.edge) w.ins
   pub outs_on_lanes : EachOne (λ (out : LaneOutIs). IsOnLane job out.number out.edge) w.outs
   pub next : w.next ≡ 0
@@ -191,21 +191,23 @@ pub stands : (setup : SetupView) (who : WorkerOf) (w : WorkerIs) (ins outs : Lis
 stands setup who w ins outs law m e i o =
     let numbers_i : lane_numbers_in w.ins ≡ lanes_in setup.job w.number = sym (map-map (λ (end : EndpointIs). end.number) endpoint_in w.ins) ∙ (ap (map (λ (end : EndpointIs). end.number)) i ∙ e.ins_are) in
     let numbers_o : lane_numbers_out w.outs ≡ out_numbers setup.job w.number = sym (map-map (λ (end : EndpointIs). end.number) endpoint_out w.outs) ∙ (ap (map (λ (end : EndpointIs). end.number)) o ∙ e.outs_are) in
-    let long : length w.ins ≡ length (lanes_in setup.job w.number) = sym (length_mapped (λ (a : LaneInIs). a.number) w.ins) ∙ ap length numbers_i in
+    let long : length w.ins ≡ length (lanes_in setup.job w.number) = sym (length-map w.ins (λ (a : LaneInIs). a.number)) ∙ ap length numbers_i in
     record {
-      who_is = m.who_is;
-      node_is = m.node_is;
-      place_is = m.place_is;
+      stands = m.stands;
       graph = e.graph;
       graph_is = e.graph_is;
-      ins_are = numbers_i;
-      ends_in = ends_in setup e.graph w.ins m.on_lanes (subst (EachOne (IsNewEndpoint setup.job e.graph)) (sym i) e.new_in);
-      some_in = let a = some_lane setup.job w.number who law m.who_is in let b = m.next in omega (arith, long, a, b);
-      few_in = let a = few_lanes setup.job w.number who law m.who_is in omega (arith, long, a);
-      outs_are = numbers_o;
-      ends_out = ends_out setup e.graph w.number w.node who w.outs m.who_is m.node_is (λ n i. subst (IsIn n) numbers_o i) m.outs_on_lanes (subst (EachOne (IsNewEndpoint setup.job e.graph)) (sym o) e.new_out);
-      room_in = m.room_in;
-      room_out = m.room_out;
+      ins = record {
+        are = numbers_i;
+        ends = ends_in setup e.graph w.ins m.on_lanes (subst (EachOne (IsNewEndpoint setup.job e.graph)) (sym i) e.new_in);
+        some = let a = some_lane setup.job w.number who law m.stands.who_is in let b = m.next in omega (arith, long, a, b);
+        few = let a = few_lanes setup.job w.number who law m.stands.who_is in omega (arith, long, a);
+        room = m.room_in;
+      };
+      outs = record {
+        are = numbers_o;
+        ends = ends_out setup e.graph w.number w.node who w.outs m.stands.who_is m.stands.node_is (λ n i. subst (IsIn n) numbers_o i) m.outs_on_lanes (subst (EachOne (IsNewEndpoint setup.job e.graph)) (sym o) e.new_out);
+        room = m.room_out;
+      };
     }
 
 -- ---- parts of what is put together

@@ -1,6 +1,7 @@
 -- The end of all lanes keeps the law.
 use Rattle.std.proofs.Common.{◌≡◌, ◌∙◌, ◌==◌, ℕ, ◌+◌, ◌<◌, List, [], ◌∷◌, ◌++◌, inl, inr, Bool, true, false, cond, map, length, refl, sym, ap, subst, arith, Some, None, slice_get, append_assoc, append-nil}
 use Rattle.std.specs.Prelude.{Contains}
+use Rattle.std.proofs.lemmas.List.{length-map}
 use Rattle.std.proofs.lemmas.Bool.{eq-eqb, eqb-true}
 use Rattle.std.proofs.lemmas.Bool.Decides.{nat_tests}
 use Rattle.marker_align.specs.declared.held.Hand.TheVariants.{Empty, Holds}
@@ -23,13 +24,13 @@ use Rattle.flow_worker.specs.Pairs.{EachOne}
 use Rattle.flow_worker.specs.Endpoints.{Gains, LaneInIs, IsSteadyIn, LaneOutIs, in_hand, planned}
 use Rattle.flow_model.specs.Dues.{AreDues}
 use Rattle.flow_model.proofs.OutLanes.{one_on, out_distinct}
-use Rattle.flow_worker.specs.Worker.{IsEndpointIn, IsEndpointOut, IsPlaced, IsWorker, Sends, ShowsTaken, WorkerIs, edges_of, view_now, lane_numbers_in, progress_now}
+use Rattle.flow_worker.specs.Worker.{IsEndpointIn, IsPlaced, IsWorker, Sends, ShowsTaken, WorkerIs, edges_of, view_now, lane_numbers_in, progress_now, HasTakenIn}
 use Rattle.flow_worker.specs.Steps.{HasClosed, all_emptied, ended_entries}
-use Rattle.flow_worker.proofs.Pairs.{each_both, each_of, length_mapped, pairs_each, pairs_keep, pairs_length}
+use Rattle.flow_worker.proofs.Pairs.{each_both, each_of, pairs_each}
 use Rattle.flow_worker.proofs.Marking.{self_test, turned-append}
 use Rattle.flow_worker.proofs.PlaceLemmas.{ins_distinct, number_is, out_sends}
 use Rattle.flow_worker.proofs.Steadying.{KeepsSteady, steady_by}
-use Rattle.flow_worker.proofs.TurnLaw.{end_emptied, end_gains}
+use Rattle.flow_worker.proofs.TurnLaw.{end_emptied, outs_gain}
 
 -- ---- the ends and the law
 
@@ -151,12 +152,12 @@ module _ (setup : SetupView) (begin : Begin) (keeps : KeepsSteady setup) (w v : 
     distinct = ins_distinct setup h.who w h.placed
 
     lanes_are : lane_numbers_in w.ins ≡ st.lanes
-    lanes_are = h.placed.ins_are ∙ ap (lanes_in setup.job) (sym number)
+    lanes_are = h.placed.ins.are ∙ ap (lanes_in setup.job) (sym number)
 
     follows : IsExecution st progress new
-    follows = ends_follow st progress w.ins (subst (AreDues setup w.node progress.dues) no_due h.dues_are) h.lawful.no_open_turn
+    follows = ends_follow st progress w.ins (subst (AreDues setup w.node progress.dues) no_due h.due.dues_are) h.lawful.no_open_turn
         (subst (λ (ns : List ℕ). EachOne (λ (a : LaneInIs). IsIn a.number ns) w.ins) lanes_are (each_of (λ (a : LaneInIs). IsIn a.number (lane_numbers_in w.ins)) w.ins (λ a i. map_in (λ (a : LaneInIs). a.number) a w.ins i)))
-        distinct (λ k i. absurd (subst (IsIn k) (h.unended open_) i))
+        distinct (λ k i. absurd (subst (IsIn k) (h.closing.unended open_) i))
 
     stands : progress_now setup begin h.who longer ≡ record progress { ended = ended_onto w.ins progress.ended }
     stands = progress_after-append (initial st) w.journal new ∙ progress_ends progress w.ins
@@ -180,15 +181,15 @@ module _ (setup : SetupView) (begin : Begin) (keeps : KeepsSteady setup) (w v : 
     none_ended : view.ended ≡ 0
     none_ended =
         let c : view.ended + 0 ≡ 0 + length progress.ended = ended_counts setup h.who first (initial st) w.journal in
-        let z : length progress.ended ≡ 0 = ap length (h.unended open_) in
+        let z : length progress.ended ≡ 0 = ap length (h.closing.unended open_) in
         omega arith
 
     longer_sent : (lane : Lane) → IsIn lane (lanes_out setup.job h.who.number) → items_sent setup h.who first lane longer ≡ items_sent setup h.who first lane w.journal ++ Last ∷ []
     longer_sent lane i =
         sent-append setup h.who first lane w.journal new
         ∙ ap (λ xs. items_sent setup h.who first lane w.journal ++ xs)
-        (sent_ends setup h.who lane view w.ins i (let s = h.placed.some_in in omega arith)
-        (let long : length w.ins ≡ length st.lanes = sym (length_mapped (λ (a : LaneInIs). a.number) w.ins) ∙ ap length lanes_are in omega (arith, none_ended, long)))
+        (sent_ends setup h.who lane view w.ins i (let s = h.placed.ins.some in omega arith)
+        (let long : length w.ins ≡ length st.lanes = sym (length-map w.ins (λ (a : LaneInIs). a.number)) ∙ ap length lanes_are in omega (arith, none_ended, long)))
 
     sends_end : (a b : LaneOutIs) → Gains ends_only a b → Sends setup begin h.who h.begun w.journal a × IsIn a w.outs → Sends setup begin h.who h.begun longer b
     sends_end a b e q lane g =
@@ -206,29 +207,27 @@ module _ (setup : SetupView) (begin : Begin) (keeps : KeepsSteady setup) (w v : 
         let k = h.placed in
         let numbers : lane_numbers_in v.ins ≡ lane_numbers_in w.ins = rw t.ins (mapped_ended (λ (a : LaneInIs). a.number) w.ins (λ a. refl)) in
         let edges : edges_of v.ins ≡ edges_of w.ins = rw t.ins (mapped_ended (λ (a : LaneInIs). a.edge) w.ins (λ a. refl)) in
-        let ends : EachOne (IsEndpointIn setup k.graph) v.ins = rw t.ins (each_ended (IsEndpointIn setup k.graph) w.ins (end_emptied setup k.graph) k.ends_in) in
-        let takes : EachOne (ShowsTaken setup v.journal) v.ins = rw (t.journal, t.ins) (takes_ended setup w.journal longer w.ins shows lasts h.takes) in
-        let steady : EachOne IsSteadyIn v.ins = rw t.ins (each_ended IsSteadyIn w.ins (λ a q. q) h.steady_in) in
+        let taken : HasTakenIn setup v.journal v.ins = record {
+          takes = rw (t.journal, t.ins) (takes_ended setup w.journal longer w.ins shows lasts h.taken.takes);
+          steady = rw t.ins (each_ended IsSteadyIn w.ins (λ a q. q) h.taken.steady);
+        } in
         let lawful : IsLawfulFrom setup begin h.who v.journal = rw t.journal longer_lawful in
-        let long : length v.ins ≡ length w.ins = rw t.ins (length_mapped (λ (a : LaneInIs). record a { hand = Empty }) w.ins) in
-        let outs_long : length v.outs ≡ length w.outs = pairs_length (Gains ends_only) w.outs v.outs t.outs in
+        let long : length v.ins ≡ length w.ins = rw t.ins (length-map w.ins (λ (a : LaneInIs). record a { hand = Empty })) in
         let sends : EachOne (Sends setup begin h.who h.begun v.journal) v.outs = rw t.journal
         (pairs_each (Gains ends_only) (λ o. Sends setup begin h.who h.begun w.journal o × IsIn o w.outs) (Sends setup begin h.who h.begun longer) w.outs v.outs sends_end t.outs
-        (each_both (Sends setup begin h.who h.begun w.journal) (λ o. IsIn o w.outs) w.outs h.sends (each_of (λ o. IsIn o w.outs) w.outs (λ o i. i)))) in
+        (each_both (Sends setup begin h.who h.begun w.journal) (λ o. IsIn o w.outs) w.outs h.sent.sends (each_of (λ o. IsIn o w.outs) w.outs (λ o i. i)))) in
         let placed : IsPlaced setup h.who v = subst (IsPlaced setup h.who) (sym t.rest) (record {
-          who_is = k.who_is;
-          node_is = k.node_is;
-          place_is = k.place_is;
+          stands = k.stands;
           graph = k.graph;
           graph_is = k.graph_is;
-          ins_are = numbers ∙ k.ins_are;
-          ends_in = ends;
-          some_in = rw long k.some_in;
-          few_in = rw long k.few_in;
-          outs_are = pairs_keep (Gains ends_only) (λ (o : LaneOutIs). o.number) w.outs v.outs (λ a b f. ap (λ (o : LaneOutIs). o.number) f) t.outs ∙ k.outs_are;
-          ends_out = pairs_each (Gains ends_only) (IsEndpointOut setup k.graph w.node) (IsEndpointOut setup k.graph w.node) w.outs v.outs (end_gains setup k.graph w.node ends_only) t.outs k.ends_out;
-          room_in = rw long k.room_in;
-          room_out = rw outs_long k.room_out;
+          ins = record {
+            are = numbers ∙ k.ins.are;
+            ends = rw t.ins (each_ended (IsEndpointIn setup k.graph) w.ins (end_emptied setup k.graph) k.ins.ends);
+            some = rw long k.ins.some;
+            few = rw long k.ins.few;
+            room = rw long k.ins.room;
+          };
+          outs = outs_gain setup k.graph w.node w.number w.spare_out ends_only w.outs v.outs t.outs k.outs;
         }) in
         let now : StateView = view_now setup begin h.who h.begun v.journal in
         let now_is : now ≡ record view { ended = view.ended + length w.ins } = rw t.journal longer_view in
@@ -243,18 +242,21 @@ module _ (setup : SetupView) (begin : Begin) (keeps : KeepsSteady setup) (w v : 
           begun = h.begun;
           begun_is = rw (ap (λ (x : WorkerIs). x.number) t.rest) h.begun_is;
           lawful = lawful;
-          func_is = rw (same_node, ap (λ (x : WorkerIs). x.in_force) t.rest) (h.func_is ∙ ap Some (sym (ap (λ (l : StateView). l.func) now_is)));
-          counts_is = rw (ap (λ (x : WorkerIs). x.counts) t.rest) (h.counts_is ∙ sym (ap (λ (l : StateView). l.counts) now_is));
-          last_is = rw (ap (λ (x : WorkerIs). x.last) t.rest) (h.last_is ∙ sym (ap (λ (l : StateView). l.last) now_is));
-          takes = takes;
-          steady_in = steady;
-          sends = sends;
-          steady_out = steady_by setup begin h.who h.begun v keeps placed lawful takes steady sends;
+          view = record {
+            func_is = rw (same_node, ap (λ (x : WorkerIs). x.in_force) t.rest) (h.view.func_is ∙ ap Some (sym (ap (λ (l : StateView). l.func) now_is)));
+            counts_is = rw (ap (λ (x : WorkerIs). x.counts) t.rest) (h.view.counts_is ∙ sym (ap (λ (l : StateView). l.counts) now_is));
+            last_is = rw (ap (λ (x : WorkerIs). x.last) t.rest) (h.view.last_is ∙ sym (ap (λ (l : StateView). l.last) now_is));
+          };
+          taken = taken;
+          sent = record {
+            sends = sends;
+            steady = steady_by setup begin h.who h.begun v keeps placed lawful taken sends;
+          };
           turned_is = rw t.journal (same_turned ∙ (h.turned_is ∙ sym turns));
-          dues_are = rw (t.journal, same_node, same_due, ap (λ (q : Progress). q.dues) stands) h.dues_are;
-          due_is = rw (same_node, same_due, edges) h.due_is;
-          few_turned = rw (same_due, same_turned) h.few_turned;
-          unended = λ c. absurd (let open_now = t.closed in cc (c, open_now));
-          finished = λ c. rw t.journal longer_finished;
-          put_down = λ c. rw t.ins (all_empty w.ins);
+          due = rw (t.journal, same_node, same_due, same_turned, edges, ap (λ (q : Progress). q.dues) stands) h.due;
+          closing = record {
+            unended = λ c. absurd (let open_now = t.closed in cc (c, open_now));
+            finished = λ c. rw t.journal longer_finished;
+            put_down = λ c. rw t.ins (all_empty w.ins);
+          };
         }

@@ -1,11 +1,12 @@
 -- The decision from the masks.
-use Rattle.std.proofs.Common.{◌≡◌, ◌∙◌, ◌⊎◌, inl, inr, ℕ, zero, suc, ◌+◌, ◌-◌, ◌/◌, ◌%◌, ◌<◌, ◌≤◌, not, max, min, nat_lt, List, [], ◌∷◌, Bool, true, false, cond, Option, Some, None, take, drop, length, refl, sym, ap, arith, bit_and, bit_or}
+use Rattle.std.proofs.Common.{◌≡◌, ◌∙◌, ◌⊎◌, inl, inr, ℕ, zero, suc, ◌+◌, ◌-◌, ◌/◌, ◌%◌, ◌<◌, ◌≤◌, not, nat_lt, List, [], ◌∷◌, Bool, true, false, cond, Option, Some, None, take, drop, length, refl, sym, ap, arith, bit_and, bit_or}
 use Rattle.std.specs.Int.{bit_at}
 use Rattle.std.specs.List.{list_all, list_any, position, prefix_len}
 use Rattle.std.proofs.lemmas.Bool.{cases_lt}
 use Rattle.std.proofs.lemmas.Bool.Decides.{nat_tests}
-use Rattle.std.proofs.lemmas.Nat.Bits.{bit_at_and, bit_at_or, bit_at_lowest, bit_at-lt, bit_at-suc}
+use Rattle.std.proofs.lemmas.Nat.Bits.{bit_at_lowest, bit_at-suc}
 use Rattle.flow_dag.specs.Masks.{has}
+use Rattle.flow_dag.proofs.MaskLemmas.{Has-and_both, Has-or_cases}
 use Rattle.marker_align.specs.Decision.{close, decided, is_aligned, next_tuple, turn}
 use Rattle.marker_align.specs.Hands.{is_issued, is_last, is_tuple}
 use Rattle.marker_align.specs.declared.decision.Act.TheVariants.{Turn, Process, Close, Nothing}
@@ -168,12 +169,6 @@ open_unended (a ∷ more) (suc k) h o = open_unended more k h.1 o
 
 -- ---- masks that have a place
 
-either_bit : (x y : ℕ) → x < 2 → y < 2 → max x y ≡ 1 → (x ≡ 1) ⊎ (y ≡ 1)
-either_bit x y hx hy e = grind arith
-
-both_bits : (x y : ℕ) → x < 2 → y < 2 → min x y ≡ 1 → (x ≡ 1) × (y ≡ 1)
-both_bits x y hx hy e = (omega arith, omega arith)
-
 -- a number that is not 0 has a bit
 bit_within : (fuel n : ℕ) → n ≤ fuel → 0 < n → (k : ℕ) × (bit_at n k ≡ 1)
 bit_within zero n l s = absurd (omega (arith, l, s))
@@ -187,7 +182,7 @@ some_bit : (n : ℕ) → (n ≡ 0 → ⊥) → (k : ℕ) × (bit_at n k ≡ 1)
 some_bit n ne = bit_within n n (omega arith) (omega (arith, ne))
 
 or_place : (m n k : ℕ) → bit_at (bit_or m n) k ≡ 1 → (has m k ≡ true) ⊎ (has n k ≡ true)
-or_place m n k e = go (either_bit (bit_at m k) (bit_at n k) (bit_at-lt m k) (bit_at-lt n k) (sym (bit_at_or m n k) ∙ e))
+or_place m n k e = go (Has-or_cases m n k e)
   where
     go : (bit_at m k ≡ 1) ⊎ (bit_at n k ≡ 1) → (has m k ≡ true) ⊎ (has n k ≡ true)
     go (inl x) = inl (one_bit m k x)
@@ -219,7 +214,7 @@ lanes_wait due empty tuples newest ins posted head are ne = rw head (go (is_alig
     k = bit.0
 
     both : (bit_at due.lanes k ≡ 1) × (bit_at (bit_or empty tuples) k ≡ 1)
-    both = both_bits (bit_at due.lanes k) (bit_at (bit_or empty tuples) k) (bit_at-lt due.lanes k) (bit_at-lt (bit_or empty tuples) k) (sym (bit_at_and due.lanes (bit_or empty tuples) k) ∙ bit.1)
+    both = Has-and_both due.lanes (bit_or empty tuples) k bit.1
 
     go : (b : Bool) → is_aligned due (all_hands ins) ≡ b → cond b (Some (Turn due.request)) None ≡ None
     go false e = refl

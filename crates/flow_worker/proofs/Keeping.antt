@@ -1,12 +1,10 @@
 -- The steps that keep the journal keep the law.
-use Rattle.std.proofs.Common.{◌≡◌, ℕ, ◌<◌, List, false, sym, ap, ◌∙◌, subst, Some, slice_get}
-use Rattle.std.specs.Prelude.{IfSome}
+use Rattle.std.proofs.Common.{◌≡◌, ℕ, List, false, sym, ap, ◌∙◌, subst, Some, slice_get}
 use Rattle.control_box.specs.Endpoints.{OwnerIs}
 use Rattle.flow_dag.specs.declared.graph.Graph.{Graph}
 use Rattle.keyed_state.specs.Counts.{Counts}
 use Rattle.lane_core.specs.Steady.{IsSteady}
 use Rattle.lane_core.specs.declared.form.Origin.{Origin}
-use Rattle.marker_align.specs.declared.decision.Due.{Due}
 use Rattle.sink_journal.specs.declared.journal.Entry.{Entry}
 use Rattle.flow_model.specs.Begin.{Begin}
 use Rattle.flow_model.specs.Lanes.{lanes}
@@ -14,8 +12,7 @@ use Rattle.flow_model.specs.SetupView.{SetupView, Worker as WorkerOf}
 use Rattle.flow_model.specs.Replay.{shown}
 use Rattle.flow_worker.specs.Pairs.{EachPair}
 use Rattle.flow_worker.specs.Endpoints.{Filled, Flushed, LaneInIs, IsSteadyIn, IsSteadyOut, LaneOutIs, SameButMemory, planned}
-use Rattle.flow_model.specs.Dues.{IsDueOf}
-use Rattle.flow_worker.specs.Worker.{IsEndpointIn, IsEndpointOut, IsPlaced, IsWorker, Sends, ShowsTaken, WorkerIs, edges_of}
+use Rattle.flow_worker.specs.Worker.{IsEndpointIn, IsEndpointOut, IsWorker, Sends, ShowsTaken, WorkerIs, edges_of}
 use Rattle.flow_worker.specs.Steps.{MemoryOnly, PollsOnly, PutsOnly, TakesOnly}
 use Rattle.flow_worker.proofs.Pairs.{pairs_each, pairs_keep, pairs_length}
 
@@ -37,47 +34,45 @@ flushed_end setup graph node a b f h = record {
 flushed_sends : (setup : SetupView) (begin : Begin) (who : WorkerOf) (counts : Counts) (journal : List Entry) (a b : LaneOutIs) → Flushed a b → Sends setup begin who counts journal a → Sends setup begin who counts journal b
 flushed_sends setup begin who counts journal a b f h lane g = f.planned_is ∙ h lane (subst (λ n. slice_get (lanes setup.job) n ≡ Some lane) f.same.1 g)
 
-pub keeps_puts : (setup : SetupView) (begin : Begin) (w v : WorkerIs) → PutsOnly w v → IsWorker setup begin w → IsWorker setup begin v
+pub keeps_puts : (setup : SetupView) (begin : Begin) (w v : WorkerIs) → PutsOnly w v
+    → IsWorker setup begin w → IsWorker setup begin v
 keeps_puts setup begin w v p h = subst (IsWorker setup begin) (sym p.rest) (go v.outs p.outs)
   where
-    go : (outs : List LaneOutIs) → EachPair Flushed w.outs outs → IsWorker setup begin (record w { outs = outs })
+    go : (outs : List LaneOutIs) → EachPair Flushed w.outs outs
+        → IsWorker setup begin (record w { outs = outs })
     go outs e =
         let k = h.placed in
-        let placed : IsPlaced setup h.who (record w { outs = outs }) = record {
-          who_is = k.who_is;
-          node_is = k.node_is;
-          place_is = k.place_is;
-          graph = k.graph;
-          graph_is = k.graph_is;
-          ins_are = k.ins_are;
-          ends_in = k.ends_in;
-          some_in = k.some_in;
-          few_in = k.few_in;
-          outs_are = pairs_keep Flushed (λ (o : LaneOutIs). o.number) w.outs outs (λ a b f. f.same.1) e ∙ k.outs_are;
-          ends_out = pairs_each Flushed (IsEndpointOut setup k.graph w.node) (IsEndpointOut setup k.graph w.node) w.outs outs (flushed_end setup k.graph w.node) e k.ends_out;
-          room_in = k.room_in;
-          room_out = rw (pairs_length Flushed w.outs outs e) k.room_out;
-        } in
+        let IsEnd = IsEndpointOut setup k.graph w.node in
+        let IsSent = Sends setup begin h.who h.begun w.journal in
         record {
           who = h.who;
-          placed = placed;
+          placed = record {
+            stands = k.stands;
+            graph = k.graph;
+            graph_is = k.graph_is;
+            ins = k.ins;
+            outs = record {
+              are = pairs_keep Flushed (λ (o : LaneOutIs). o.number) w.outs outs
+                  (λ a b f. f.same.1) e ∙ k.outs.are;
+              ends = pairs_each Flushed IsEnd IsEnd w.outs outs
+                  (flushed_end setup k.graph w.node) e k.outs.ends;
+              room = rw (pairs_length Flushed w.outs outs e) k.outs.room;
+            };
+          };
           begun = h.begun;
           begun_is = h.begun_is;
           lawful = h.lawful;
-          func_is = h.func_is;
-          counts_is = h.counts_is;
-          last_is = h.last_is;
-          takes = h.takes;
-          steady_in = h.steady_in;
-          sends = pairs_each Flushed (Sends setup begin h.who h.begun w.journal) (Sends setup begin h.who h.begun w.journal) w.outs outs (flushed_sends setup begin h.who h.begun w.journal) e h.sends;
-          steady_out = pairs_each Flushed IsSteadyOut IsSteadyOut w.outs outs flushed_steady e h.steady_out;
+          view = h.view;
+          taken = h.taken;
+          sent = record {
+            sends = pairs_each Flushed IsSent IsSent w.outs outs
+                (flushed_sends setup begin h.who h.begun w.journal) e h.sent.sends;
+            steady = pairs_each Flushed IsSteadyOut IsSteadyOut w.outs outs flushed_steady e
+                h.sent.steady;
+          };
           turned_is = h.turned_is;
-          dues_are = h.dues_are;
-          due_is = h.due_is;
-          few_turned = h.few_turned;
-          unended = h.unended;
-          finished = h.finished;
-          put_down = h.put_down;
+          due = h.due;
+          closing = h.closing;
         }
 
 -- ---- lanes in
@@ -95,93 +90,83 @@ filled_end setup graph a b f q = record {
 filled_takes : (setup : SetupView) (journal : List Entry) (a b : LaneInIs) → Filled a b → ShowsTaken setup journal a → ShowsTaken setup journal b
 filled_takes setup journal a b f q = rw f.same.1 (f.kept (shown setup a.number journal) q)
 
-pub keeps_takes : (setup : SetupView) (begin : Begin) (w v : WorkerIs) → TakesOnly w v → w.closed ≡ false → IsWorker setup begin w → IsWorker setup begin v
+pub keeps_takes : (setup : SetupView) (begin : Begin) (w v : WorkerIs) → TakesOnly w v
+    → w.closed ≡ false → IsWorker setup begin w → IsWorker setup begin v
 keeps_takes setup begin w v p open_ h = subst (IsWorker setup begin) (sym p.rest) (go v.ins p.ins)
   where
-    go : (ins : List LaneInIs) → EachPair Filled w.ins ins → IsWorker setup begin (record w { ins = ins })
+    go : (ins : List LaneInIs) → EachPair Filled w.ins ins
+        → IsWorker setup begin (record w { ins = ins })
     go ins e =
         let k = h.placed in
-        let edges : edges_of ins ≡ edges_of w.ins = pairs_keep Filled (λ (a : LaneInIs). a.edge) w.ins ins (λ a b f. f.same.3) e in
-        let placed : IsPlaced setup h.who (record w { ins = ins }) = record {
-          who_is = k.who_is;
-          node_is = k.node_is;
-          place_is = k.place_is;
-          graph = k.graph;
-          graph_is = k.graph_is;
-          ins_are = pairs_keep Filled (λ (a : LaneInIs). a.number) w.ins ins (λ a b f. f.same.1) e ∙ k.ins_are;
-          ends_in = pairs_each Filled (IsEndpointIn setup k.graph) (IsEndpointIn setup k.graph) w.ins ins (filled_end setup k.graph) e k.ends_in;
-          some_in = rw (pairs_length Filled w.ins ins e) k.some_in;
-          few_in = rw (pairs_length Filled w.ins ins e) k.few_in;
-          outs_are = k.outs_are;
-          ends_out = k.ends_out;
-          room_in = rw (pairs_length Filled w.ins ins e) k.room_in;
-          room_out = k.room_out;
-        } in
+        let edges : edges_of ins ≡ edges_of w.ins =
+        pairs_keep Filled (λ (a : LaneInIs). a.edge) w.ins ins (λ a b f. f.same.3) e in
+        let IsEnd = IsEndpointIn setup k.graph in
+        let IsTaken = ShowsTaken setup w.journal in
         record {
           who = h.who;
-          placed = placed;
+          placed = record {
+            stands = k.stands;
+            graph = k.graph;
+            graph_is = k.graph_is;
+            ins = record {
+              are = pairs_keep Filled (λ (a : LaneInIs). a.number) w.ins ins
+                  (λ a b f. f.same.1) e ∙ k.ins.are;
+              ends = pairs_each Filled IsEnd IsEnd w.ins ins (filled_end setup k.graph) e
+                  k.ins.ends;
+              some = rw (pairs_length Filled w.ins ins e) k.ins.some;
+              few = rw (pairs_length Filled w.ins ins e) k.ins.few;
+              room = rw (pairs_length Filled w.ins ins e) k.ins.room;
+            };
+            outs = k.outs;
+          };
           begun = h.begun;
           begun_is = h.begun_is;
           lawful = h.lawful;
-          func_is = h.func_is;
-          counts_is = h.counts_is;
-          last_is = h.last_is;
-          takes = pairs_each Filled (ShowsTaken setup w.journal) (ShowsTaken setup w.journal) w.ins ins (filled_takes setup w.journal) e h.takes;
-          steady_in = pairs_each Filled IsSteadyIn IsSteadyIn w.ins ins (λ a b f q. f.steady q) e h.steady_in;
-          sends = h.sends;
-          steady_out = h.steady_out;
+          view = h.view;
+          taken = record {
+            takes = pairs_each Filled IsTaken IsTaken w.ins ins (filled_takes setup w.journal) e
+                h.taken.takes;
+            steady = pairs_each Filled IsSteadyIn IsSteadyIn w.ins ins (λ a b f q. f.steady q) e
+                h.taken.steady;
+          };
+          sent = h.sent;
           turned_is = h.turned_is;
-          dues_are = h.dues_are;
-          due_is = subst (λ es. IfSome w.due (IsDueOf setup w.node es)) (sym edges) h.due_is;
-          few_turned = h.few_turned;
-          unended = h.unended;
-          finished = h.finished;
-          put_down = λ c. absurd (cc (c, open_));
+          due = rw edges h.due;
+          closing = record {
+            unended = h.closing.unended;
+            finished = h.closing.finished;
+            put_down = λ c. absurd (cc (c, open_));
+          };
         }
 
 -- ---- the box
 
-pub keeps_poll : (setup : SetupView) (begin : Begin) (w v : WorkerIs) (n : ℕ) → PollsOnly w v n → IsWorker setup begin w → IsWorker setup begin v
+pub keeps_poll : (setup : SetupView) (begin : Begin) (w v : WorkerIs) (n : ℕ) → PollsOnly w v n
+    → IsWorker setup begin w → IsWorker setup begin v
 keeps_poll setup begin w v n p h = subst (IsWorker setup begin) (sym p.rest) (go v.owner p.turned)
   where
-    go : (owner : OwnerIs) → owner.turned ≡ w.owner.turned → IsWorker setup begin (record w { owner = owner })
+    go : (owner : OwnerIs) → owner.turned ≡ w.owner.turned
+        → IsWorker setup begin (record w { owner = owner })
     go owner e =
         let k = h.placed in
-        let placed : IsPlaced setup h.who (record w { owner = owner }) = record {
-          who_is = k.who_is;
-          node_is = k.node_is;
-          place_is = k.place_is;
-          graph = k.graph;
-          graph_is = k.graph_is;
-          ins_are = k.ins_are;
-          ends_in = k.ends_in;
-          some_in = k.some_in;
-          few_in = k.few_in;
-          outs_are = k.outs_are;
-          ends_out = k.ends_out;
-          room_in = k.room_in;
-          room_out = k.room_out;
-        } in
         record {
           who = h.who;
-          placed = placed;
+          placed = record {
+            stands = k.stands;
+            graph = k.graph;
+            graph_is = k.graph_is;
+            ins = k.ins;
+            outs = k.outs;
+          };
           begun = h.begun;
           begun_is = h.begun_is;
           lawful = h.lawful;
-          func_is = h.func_is;
-          counts_is = h.counts_is;
-          last_is = h.last_is;
-          takes = h.takes;
-          steady_in = h.steady_in;
-          sends = h.sends;
-          steady_out = h.steady_out;
+          view = h.view;
+          taken = h.taken;
+          sent = h.sent;
           turned_is = e ∙ h.turned_is;
-          dues_are = h.dues_are;
-          due_is = h.due_is;
-          few_turned = subst (λ t. IfSome w.due (λ (due : Due). t < due.request)) (sym e) h.few_turned;
-          unended = h.unended;
-          finished = h.finished;
-          put_down = h.put_down;
+          due = rw e h.due;
+          closing = h.closing;
         }
 
 -- ---- memory is no part of the law
@@ -192,45 +177,44 @@ moved_out P f a b e q = subst P (sym e) (f a b.memory q)
 end_moved : (setup : SetupView) (graph : Graph) (node : ℕ) (a : LaneOutIs) (m : ℕ) → IsEndpointOut setup graph node a → IsEndpointOut setup graph node (record a { memory = m })
 end_moved setup graph node a m h = record { lane = h.lane; numbered = h.numbered; edge_is = h.edge_is; origin_is = h.origin_is }
 
-pub keeps_memory : (setup : SetupView) (begin : Begin) (w v : WorkerIs) → MemoryOnly w v → IsWorker setup begin w → IsWorker setup begin v
-keeps_memory setup begin w v p h = subst (IsWorker setup begin) (sym p.rest) (go v.outs v.memory p.outs)
+pub keeps_memory : (setup : SetupView) (begin : Begin) (w v : WorkerIs) → MemoryOnly w v
+    → IsWorker setup begin w → IsWorker setup begin v
+keeps_memory setup begin w v p h =
+    subst (IsWorker setup begin) (sym p.rest) (go v.outs v.memory p.outs)
   where
-    go : (outs : List LaneOutIs) (m : ℕ) → EachPair SameButMemory w.outs outs → IsWorker setup begin (record w { outs = outs; memory = m })
+    go : (outs : List LaneOutIs) (m : ℕ) → EachPair SameButMemory w.outs outs
+        → IsWorker setup begin (record w { outs = outs; memory = m })
     go outs m e =
         let k = h.placed in
-        let placed : IsPlaced setup h.who (record w { outs = outs; memory = m }) = record {
-          who_is = k.who_is;
-          node_is = k.node_is;
-          place_is = k.place_is;
-          graph = k.graph;
-          graph_is = k.graph_is;
-          ins_are = k.ins_are;
-          ends_in = k.ends_in;
-          some_in = k.some_in;
-          few_in = k.few_in;
-          outs_are = pairs_keep SameButMemory (λ (o : LaneOutIs). o.number) w.outs outs (λ a b f. ap (λ (o : LaneOutIs). o.number) f) e ∙ k.outs_are;
-          ends_out = pairs_each SameButMemory (IsEndpointOut setup k.graph w.node) (IsEndpointOut setup k.graph w.node) w.outs outs (moved_out (IsEndpointOut setup k.graph w.node) (end_moved setup k.graph w.node)) e k.ends_out;
-          room_in = k.room_in;
-          room_out = rw (pairs_length SameButMemory w.outs outs e) k.room_out;
-        } in
+        let IsEnd = IsEndpointOut setup k.graph w.node in
+        let IsSent = Sends setup begin h.who h.begun w.journal in
         record {
           who = h.who;
-          placed = placed;
+          placed = record {
+            stands = k.stands;
+            graph = k.graph;
+            graph_is = k.graph_is;
+            ins = k.ins;
+            outs = record {
+              are = pairs_keep SameButMemory (λ (o : LaneOutIs). o.number) w.outs outs
+                  (λ a b f. ap (λ (o : LaneOutIs). o.number) f) e ∙ k.outs.are;
+              ends = pairs_each SameButMemory IsEnd IsEnd w.outs outs
+                  (moved_out IsEnd (end_moved setup k.graph w.node)) e k.outs.ends;
+              room = rw (pairs_length SameButMemory w.outs outs e) k.outs.room;
+            };
+          };
           begun = h.begun;
           begun_is = h.begun_is;
           lawful = h.lawful;
-          func_is = h.func_is;
-          counts_is = h.counts_is;
-          last_is = h.last_is;
-          takes = h.takes;
-          steady_in = h.steady_in;
-          sends = pairs_each SameButMemory (Sends setup begin h.who h.begun w.journal) (Sends setup begin h.who h.begun w.journal) w.outs outs (moved_out (Sends setup begin h.who h.begun w.journal) (λ a m q. q)) e h.sends;
-          steady_out = pairs_each SameButMemory IsSteadyOut IsSteadyOut w.outs outs (moved_out IsSteadyOut (λ a m q. q)) e h.steady_out;
+          view = h.view;
+          taken = h.taken;
+          sent = record {
+            sends = pairs_each SameButMemory IsSent IsSent w.outs outs
+                (moved_out IsSent (λ a m q. q)) e h.sent.sends;
+            steady = pairs_each SameButMemory IsSteadyOut IsSteadyOut w.outs outs
+                (moved_out IsSteadyOut (λ a m q. q)) e h.sent.steady;
+          };
           turned_is = h.turned_is;
-          dues_are = h.dues_are;
-          due_is = h.due_is;
-          few_turned = h.few_turned;
-          unended = h.unended;
-          finished = h.finished;
-          put_down = h.put_down;
+          due = h.due;
+          closing = h.closing;
         }

@@ -1,6 +1,7 @@
 -- Where the outputs of a worker go.
 use Rattle.std.proofs.Common.{◌≡◌, ◌∙◌, ◌+◌, ◌==◌, ◌<◌, ◌≤◌, ℕ, zero, suc, List, [], ◌∷◌, ◌++◌, Bool, true, false, cond, map, length, set, get_or, refl, sym, ap, subst, arith, Some, None, Option, slice_get, append_assoc, append-nil, length-append}
 use Rattle.std.specs.List.{cons_option}
+use Rattle.std.proofs.lemmas.List.{length-map}
 use Rattle.std.proofs.lemmas.Bool.{eq-eqb, eqb-true}
 use Rattle.std.proofs.lemmas.Bool.Decides.{nat_tests}
 use Rattle.std.proofs.lemmas.List.Elements.{filter_map-append}
@@ -24,7 +25,7 @@ use Rattle.flow_worker.specs.Pairs.{EachOne, EachPair}
 use Rattle.flow_worker.specs.Endpoints.{Appended, HasRoomFor, LaneOutIs}
 use Rattle.flow_worker.specs.Steps.{items_at, items_if, place_from}
 use Rattle.flow_worker.specs.Worker.{IsSenderAt, lane_numbers_out}
-use Rattle.flow_worker.proofs.Pairs.{get_mapped, length_mapped}
+use Rattle.sink_journal.proofs.SmallLemmas.{get_mapped}
 use Rattle.flow_worker.proofs.OutputPlaces.{lane_at, no_route, place_below, route}
 
 -- ---- one output
@@ -162,7 +163,7 @@ module _ (job : JobView) (node : ℕ) (law : IsLawful job) (who : WorkerOf) (out
   place_within port tuple place exits same e =
       let r = route job who port tuple place law is.there (subst (λ xs. place_from job 0 xs port tuple ≡ Some place) (same ∙ exits_same) e) in
       let l = place_below job who.number place r.0 (lane_numbers_out outs) is.numbers_are r.2 in
-      omega (arith, l, length_mapped (λ (o : LaneOutIs). o.number) outs)
+      omega (arith, l, length-map outs (λ (o : LaneOutIs). o.number))
 
   pub delivers : (all rest : List Output) (output : Output) (place : ℕ) (exits : List OutEdge) (d z : LaneOutIs) (now : List LaneOutIs) → exits ≡ out_edges job node
       → place_from job 0 exits output.port output.tuple ≡ Some place → place < length now → z ≡ record (get_or now place d) { waiting = (get_or now place d).waiting ++ Carry output.tuple ∷ [] }

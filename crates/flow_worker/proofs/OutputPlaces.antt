@@ -2,6 +2,7 @@
 use Rattle.std.proofs.Common.{◌≡◌, ◌∙◌, ◌+◌, ◌==◌, ◌<◌, ◌≤◌, ℕ, zero, suc, List, [], ◌∷◌, ◌++◌, inl, inr, Bool, true, false, cond, map, filter, drop, length, get_or, refl, sym, ap, subst, arith, Some, None, Option, slice_get}
 use Rattle.std.specs.Prelude.{option_map}
 use Rattle.std.specs.List.{enumerate_from, flat_map}
+use Rattle.std.proofs.lemmas.List.{length-map}
 use Rattle.std.proofs.lemmas.Bool.Decides.{nat_tests}
 use Rattle.std.proofs.lemmas.Option.{slice_get_within}
 use Rattle.flow_dag.specs.declared.edge.Edge.{Edge}
@@ -22,7 +23,8 @@ use Rattle.flow_model.specs.declared.topology.OutEdge.{OutEdge}
 use Rattle.flow_worker.proofs.OutLanes.{lanes_out-rows}
 use Rattle.flow_model.proofs.RouteLemmas.{IsReached, found_out, is_reached, no_out}
 use Rattle.flow_worker.specs.Steps.{place_from}
-use Rattle.flow_worker.proofs.Pairs.{front, get_mapped, length_mapped}
+use Rattle.sink_journal.proofs.SmallLemmas.{get_mapped}
+use Rattle.flow_worker.proofs.Pairs.{front}
 use Rattle.flow_model.proofs.PlaceLemmas.{get_left, map_place}
 
 -- ---- the edges out
@@ -76,7 +78,7 @@ only_place job node i exits d port first tuple law same l p one =
 
 pub outs_few : (job : JobView) (node : ℕ) (exits : List OutEdge) → IsLawful job → exits ≡ out_edges job node → length exits ≤ 128
 outs_few job node exits law same =
-    omega (arith, ap length same, length_mapped (out_edge job) (filter (λ (p : ℕ × Edge). p.1.from == node) (enumerate_from 0 job.edges)), fewer (λ (p : ℕ × Edge). p.1.from == node) (enumerate_from 0 job.edges), numbered 0 job.edges, law.limits.edges)
+    omega (arith, ap length same, length-map (filter (λ (p : ℕ × Edge). p.1.from == node) (enumerate_from 0 job.edges)) (out_edge job), fewer (λ (p : ℕ × Edge). p.1.from == node) (enumerate_from 0 job.edges), numbered 0 job.edges, law.limits.edges)
   where
     fewer : {A : Type 0} (test : A → Bool) (xs : List A) → length (filter test xs) ≤ length xs
     fewer test [] = omega arith
@@ -141,7 +143,7 @@ found_at job sender law first port tuple (p ∷ edges) place f e =
     same = ap (λ (o : Option Edge). worker_for job o tuple) there
 
     long : length (lanes_row job p.0 p.1 sender) ≡ length (workers_at_node job p.1.to)
-    long = length_mapped (λ (who : WorkerOf). lane_to sender p who) (workers_at_node job p.1.to)
+    long = length-map (workers_at_node job p.1.to) (λ (who : WorkerOf). lane_to sender p who)
 
     go : (b : Bool) → (p.1.port == port) ≡ b → cond b (Some (first + worker)) (place_from job (first + length (workers_at_node job p.1.to)) (map (out_edge job) edges) port tuple) ≡ Some place
         → (place_from job (first + length (workers_at_node job p.1.to)) (map (out_edge job) edges) port tuple ≡ Some place → Found job sender (first + length (workers_at_node job p.1.to)) port tuple edges place)

@@ -38,7 +38,7 @@ turn_alone : (setup : SetupView) (begin : Begin) (w v : WorkerIs) (due : Due) �
 turn_alone setup begin w v due planned h e head g c = go g.0 g.1 (subst (IsIn (Turned due.request)) (added_is w v g.0 g.1) (in_of_contains (Turned due.request) (added w v) c)) g.2
   where
     its : IsDueOf setup w.node (edges_of w.ins) due
-    its = subst (λ (o : Option Due). IfSome o (IsDueOf setup w.node (edges_of w.ins))) e h.due_is
+    its = subst (λ (o : Option Due). IfSome o (IsDueOf setup w.node (edges_of w.ins))) e h.due.due_is
 
     none : marked_entries due.lanes due.request 0 w.ins ≡ []
     none = marked_none due.lanes due.request 0 w.ins (λ k a at b. head_places setup h.who w due planned h.placed its head k a at (subst (λ m. has due.lanes m ≡ true) (omega arith) b))

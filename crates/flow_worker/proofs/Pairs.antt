@@ -1,5 +1,5 @@
 -- Two lists, place by place.
-use Rattle.std.proofs.Common.{◌≡◌, Bool, true, false, inl, inr, Some, slice_get, ℕ, zero, suc, ◌+◌, ◌<◌, ◌≤◌, List, [], ◌∷◌, set, get_or, length, refl, ap, sym, subst, arith, add-one, take, drop, ◌++◌, append_assoc, drop-cons, map}
+use Rattle.std.proofs.Common.{◌≡◌, Bool, true, false, inl, inr, ℕ, zero, suc, ◌+◌, ◌<◌, ◌≤◌, List, [], ◌∷◌, set, get_or, length, refl, ap, sym, subst, arith, add-one, take, drop, ◌++◌, append_assoc, drop-cons, map}
 use Rattle.std.specs.Prelude.{◌↔◌, IsTrue}
 use Rattle.std.proofs.Math.Nat.{eq-or-lt_of_le}
 use Rattle.std.proofs.lemmas.List.{drop-set-lt}
@@ -161,12 +161,3 @@ each_both P Q (x ∷ xs) a b = ((a.0, b.0), each_both P Q xs a.1 b.1)
 pub each_map : {A : Type 0} (P Q : A → Type 0) (xs : List A) → ((x : A) → P x → Q x) → EachOne P xs → EachOne Q xs
 each_map P Q [] f a = tt
 each_map P Q (x ∷ xs) f a = (f x a.0, each_map P Q xs f a.1)
-
-pub get_mapped : {A B : Type 0} (f : A → B) (xs : List A) (k : ℕ) (x : A) → slice_get xs k ≡ Some x → slice_get (map f xs) k ≡ Some (f x)
-get_mapped f [] k x g = absurd (cc)
-get_mapped f (y ∷ xs) zero x g = let e : y ≡ x = cc in ap (λ z. Some (f z)) e
-get_mapped f (y ∷ xs) (suc k) x g = get_mapped f xs k x g
-
-pub length_mapped : {A B : Type 0} (f : A → B) (xs : List A) → length (map f xs) ≡ length xs
-length_mapped f [] = refl
-length_mapped f (x ∷ xs) = ap suc (length_mapped f xs)

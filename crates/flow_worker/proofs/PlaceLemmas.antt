@@ -9,13 +9,13 @@ use Rattle.flow_dag.specs.declared.graph.Graph.{Graph}
 use Rattle.flow_model.specs.Covers.{covers_edge}
 use Rattle.flow_model.specs.Dues.{edges_in}
 use Rattle.flow_worker.specs.Pairs.{EachOne}
-use Rattle.flow_model.specs.Lanes.{is_sender, lanes, lanes_out, lanes_that, marked_lanes}
+use Rattle.flow_model.specs.Lanes.{is_sender, lanes, lanes_out, marked_lanes}
 use Rattle.flow_model.specs.declared.topology.Lane.{Lane}
 use Rattle.flow_model.specs.SetupView.{SetupView, Worker as WorkerOf}
 use Rattle.flow_model.specs.Workers.{nth_worker, workers_in}
 use Rattle.flow_model.specs.Replay.{items_on, marker, put_on_each}
-use Rattle.flow_model.proofs.ElementLemmas.{AreDistinct, IsIn, distinct_filter, distinct_map, filter_in, in_filter, in_of_place, map_in, place_of_in}
-use Rattle.flow_model.proofs.LaneLemmas.{enumerate_distinct, in_enumerate, in_lanes_that, lanes_that_in}
+use Rattle.flow_model.proofs.ElementLemmas.{AreDistinct, IsIn, filter_in, in_filter, in_of_place, map_in, place_of_in}
+use Rattle.flow_model.proofs.LaneLemmas.{in_enumerate, in_lanes_that, lanes_that-distinct, lanes_that_in}
 use Rattle.flow_model.proofs.WorkerPlaces.{node_below, nth_worker-get}
 use Rattle.flow_model.proofs.WorkerLemmas.{worker_with}
 use Rattle.flow_model.proofs.OutLanes.{on_passing, out_distinct}
@@ -49,40 +49,24 @@ edges_among setup graph (a ∷ more) (p ∷ ps) n e t =
     let here : a.edge ≡ p.1.edge = e.0.edge_is ∙ ap (λ (l : Lane). l.edge) same in
     ap (λ (k : ℕ). k ∷ edges_of more) here ∙ ap (λ (ks : List ℕ). p.1.edge ∷ ks) (edges_among setup graph more ps numbers e.1 t.1)
 
-pub lanes_that_distinct : (test : Lane → Bool) (job : JobView) → AreDistinct (lanes_that test job)
-lanes_that_distinct test job =
-    distinct_map (λ (p : ℕ × Lane). p.0) (filter (λ (p : ℕ × Lane). test p.1) (enumerate_from 0 (lanes job))) same
-    (distinct_filter (λ (p : ℕ × Lane). test p.1) (enumerate_from 0 (lanes job)) (enumerate_distinct (lanes job)))
-  where
-    same : (p q : ℕ × Lane) → IsIn p (filter (λ (p : ℕ × Lane). test p.1) (enumerate_from 0 (lanes job))) → IsIn q (filter (λ (p : ℕ × Lane). test p.1) (enumerate_from 0 (lanes job)))
-        → p.0 ≡ q.0 → p ≡ q
-    same p q i j e =
-        let x = in_enumerate 0 (lanes job) p (in_filter (λ (p : ℕ × Lane). test p.1) p (enumerate_from 0 (lanes job)) i).0 in
-        let y = in_enumerate 0 (lanes job) q (in_filter (λ (p : ℕ × Lane). test p.1) q (enumerate_from 0 (lanes job)) j).0 in
-        let k : x.0 ≡ y.0 = omega (arith, x.1, y.1, e) in
-        let u = x.2 in
-        let v : slice_get (lanes job) x.0 ≡ Some q.1 = subst (λ n. slice_get (lanes job) n ≡ Some q.1) (sym k) y.2 in
-        let f : p.1 ≡ q.1 = cc in
-        λ i. (e i, f i)
-
 module _ (setup : SetupView) (who : WorkerOf) (w : WorkerIs) (k : IsPlaced setup who w) where
   pub number_is : who.number ≡ w.number
-  number_is = (worker_with setup.job w.number who k.who_is).0
+  number_is = (worker_with setup.job w.number who k.stands.who_is).0
 
   pub ins_distinct : AreDistinct (lane_numbers_in w.ins)
-  ins_distinct = subst AreDistinct (sym k.ins_are) (lanes_that_distinct (λ (lane : Lane). lane.receiver == w.number) setup.job)
+  ins_distinct = subst AreDistinct (sym k.ins.are) (lanes_that-distinct (λ (lane : Lane). lane.receiver == w.number) setup.job)
 
   -- a lane in hand leads to the worker
   pub in_receives : (a : LaneInIs) → IsIn a w.ins → (e : IsEndpointIn setup k.graph a) → e.lane.receiver ≡ who.number
   in_receives a i e =
-      let r = in_lanes_that (λ (lane : Lane). lane.receiver == w.number) setup.job a.number (subst (IsIn a.number) k.ins_are (map_in (λ (a : LaneInIs). a.number) a w.ins i)) in
+      let r = in_lanes_that (λ (lane : Lane). lane.receiver == w.number) setup.job a.number (subst (IsIn a.number) k.ins.are (map_in (λ (a : LaneInIs). a.number) a w.ins i)) in
       let x = e.numbered in
       let y = r.1 in
       let same : r.0 ≡ e.lane = cc in
       sym (ap (λ (l : Lane). l.receiver) same) ∙ (eqb-true r.0.receiver w.number r.2 ∙ sym number_is)
 
   pub in_end : (a : LaneInIs) → IsIn a w.ins → IsEndpointIn setup k.graph a
-  in_end a i = each_at (IsEndpointIn setup k.graph) a w.ins k.ends_in i
+  in_end a i = each_at (IsEndpointIn setup k.graph) a w.ins k.ins.ends i
 
   -- it brings the marker where its edge is covered
   pub in_marked : (r : ℕ) (a : LaneInIs) → IsIn a w.ins → covers_edge setup r a.edge ≡ true → IsIn a.number (marked_lanes setup who.number r)
@@ -99,7 +83,7 @@ module _ (setup : SetupView) (who : WorkerOf) (w : WorkerIs) (k : IsPlaced setup
       let q = in_lanes_that (λ (lane : Lane). (lane.receiver == who.number) && covers_edge setup r lane.edge) setup.job n i in
       let parts = and_parts (q.0.receiver == who.number) (covers_edge setup r q.0.edge) q.2 in
       let there : (q.0.receiver == w.number) ≡ true = subst (λ m. (q.0.receiver == m) ≡ true) number_is parts.0 in
-      let among : IsIn n (lane_numbers_in w.ins) = subst (IsIn n) (sym k.ins_are) (lanes_that_in (λ (lane : Lane). lane.receiver == w.number) setup.job n q.0 q.1 there) in
+      let among : IsIn n (lane_numbers_in w.ins) = subst (IsIn n) (sym k.ins.are) (lanes_that_in (λ (lane : Lane). lane.receiver == w.number) setup.job n q.0 q.1 there) in
       let place = place_of_in n (lane_numbers_in w.ins) among in
       let at = map_place (λ (a : LaneInIs). a.number) w.ins place.0 n place.1 in
       let e = in_end at.0 (in_of_place at.0 w.ins place.0 at.1) in
@@ -112,7 +96,7 @@ module _ (setup : SetupView) (who : WorkerOf) (w : WorkerIs) (k : IsPlaced setup
   -- a lane out leads from the worker
   pub out_sends : (o : LaneOutIs) → IsIn o w.outs → (lane : Lane) → slice_get (lanes setup.job) o.number ≡ Some lane → IsIn lane (lanes_out setup.job who.number)
   out_sends o i lane g =
-      let r = in_lanes_that (λ (lane : Lane). is_sender w.number lane.sender) setup.job o.number (subst (IsIn o.number) k.outs_are (map_in (λ (o : LaneOutIs). o.number) o w.outs i)) in
+      let r = in_lanes_that (λ (lane : Lane). is_sender w.number lane.sender) setup.job o.number (subst (IsIn o.number) k.outs.are (map_in (λ (o : LaneOutIs). o.number) o w.outs i)) in
       let y = r.1 in
       let same : r.0 ≡ lane = cc in
       let sends : is_sender who.number lane.sender ≡ true = subst (λ (l : Lane). is_sender who.number l.sender ≡ true) same (subst (λ m. is_sender m r.0.sender ≡ true) (sym number_is) r.2) in
@@ -120,7 +104,7 @@ module _ (setup : SetupView) (who : WorkerOf) (w : WorkerIs) (k : IsPlaced setup
 
   pub out_lane_edge : (o : LaneOutIs) → IsIn o w.outs → (lane : Lane) → slice_get (lanes setup.job) o.number ≡ Some lane → lane.edge ≡ o.edge
   out_lane_edge o i lane g =
-      let e = each_at (IsEndpointOut setup k.graph w.node) o w.outs k.ends_out i in
+      let e = each_at (IsEndpointOut setup k.graph w.node) o w.outs k.outs.ends i in
       let x = e.numbered in
       let same : e.lane ≡ lane = cc in
       ap (λ (l : Lane). l.edge) (sym same) ∙ sym e.edge_is
@@ -128,15 +112,15 @@ module _ (setup : SetupView) (who : WorkerOf) (w : WorkerIs) (k : IsPlaced setup
 -- the edges of the lanes in are those of the setup
 pub placed_edges : (setup : SetupView) (who : WorkerOf) (w : WorkerIs) → IsPlaced setup who w → edges_of w.ins ≡ edges_in setup.job w.number
 placed_edges setup who w k =
-    edges_among setup k.graph w.ins (passing (λ (lane : Lane). lane.receiver == w.number) setup.job) k.ins_are k.ends_in
+    edges_among setup k.graph w.ins (passing (λ (lane : Lane). lane.receiver == w.number) setup.job) k.ins.are k.ins.ends
     (each_map _ _ (passing (λ (lane : Lane). lane.receiver == w.number) setup.job) (λ p h. h.0) (passes (λ (lane : Lane). lane.receiver == w.number) setup.job))
 
 -- and so is its node
 pub placed_node : (setup : SetupView) (who : WorkerOf) (w : WorkerIs) → IsPlaced setup who w → (nth_worker setup.job w.number).node ≡ w.node
-placed_node setup who w k = ap (λ (p : WorkerOf). p.node) (nth_worker-get setup.job w.number who k.who_is) ∙ sym k.node_is
+placed_node setup who w k = ap (λ (p : WorkerOf). p.node) (nth_worker-get setup.job w.number who k.stands.who_is) ∙ sym k.stands.node_is
 
 pub placed_within : (setup : SetupView) (who : WorkerOf) (w : WorkerIs) → IsPlaced setup who w → w.number < length (workers_in setup.job)
-placed_within setup who w k = slice_get_within (workers_in setup.job) w.number who k.who_is
+placed_within setup who w k = slice_get_within (workers_in setup.job) w.number who k.stands.who_is
 
 pub placed_below : (setup : SetupView) (who : WorkerOf) (w : WorkerIs) → IsPlaced setup who w → w.node < length setup.job.nodes
 placed_below setup who w k = subst (λ n. n < length setup.job.nodes) (placed_node setup who w k) (node_below setup.job w.number (placed_within setup who w k))

@@ -24,13 +24,13 @@ use Rattle.flow_model.proofs.ElementLemmas.{AreDistinct, IsIn, contains_of_in}
 use Rattle.flow_model.proofs.JournalLemmas.{IsExecution-append, after_all-append, progress_after-append, sent-append, shown-append}
 use Rattle.flow_worker.specs.Pairs.{EachOne}
 use Rattle.flow_worker.specs.Endpoints.{Gains, LaneInIs, IsSteadyIn, LaneOutIs, in_hand, planned}
-use Rattle.flow_worker.specs.Worker.{IsEndpointIn, IsEndpointOut, IsPlaced, IsWorker, Sends, ShowsTaken, WorkerIs, edges_of, view_now, lane_numbers_in, progress_now}
+use Rattle.flow_worker.specs.Worker.{IsEndpointIn, IsPlaced, IsWorker, Sends, ShowsTaken, WorkerIs, edges_of, view_now, lane_numbers_in, progress_now, HasTakenIn}
 use Rattle.flow_worker.specs.Steps.{HasProcessed, items_at, items_if, laid_down, view_of}
-use Rattle.flow_worker.proofs.Pairs.{pairs_each, pairs_keep, pairs_length}
+use Rattle.flow_worker.proofs.Pairs.{pairs_each}
 use Rattle.flow_worker.proofs.Marking.{in_numbers_at, self_test, turned-append}
 use Rattle.flow_worker.proofs.PlaceLemmas.{ins_distinct, number_is}
 use Rattle.flow_worker.proofs.Steadying.{KeepsSteady, steady_by}
-use Rattle.flow_worker.proofs.TurnLaw.{end_emptied, end_gains}
+use Rattle.flow_worker.proofs.TurnLaw.{end_emptied, outs_gain}
 
 mapped_laid : {B : Type 0} (f : LaneInIs → B) (k : ℕ) (ins : List LaneInIs) → ((a : LaneInIs) → f (record a { hand = Empty }) ≡ f a) → map f (laid_down k ins) ≡ map f ins
 mapped_laid f k [] same = refl
@@ -110,19 +110,19 @@ module _ (setup : SetupView) (begin : Begin) (keeps : KeepsSteady setup) (place 
     view_by func counts last = record { func = func; counts = counts; last = last; ended = 0 }
 
     func_same : p.func ≡ view.func
-    func_same = same_Some p.func view.func (sym p.func_is ∙ h.func_is)
+    func_same = same_Some p.func view.func (sym p.func_is ∙ h.view.func_is)
 
     same_puts : puts setup h.who (view_of w p.func) entry ≡ puts setup h.who view entry
     same_puts =
         ap (λ f. puts setup h.who (view_by f w.counts w.last) entry) func_same
-        ∙ (ap (λ c. puts setup h.who (view_by view.func c w.last) entry) h.counts_is
-        ∙ ap (λ n. puts setup h.who (view_by view.func view.counts n) entry) h.last_is)
+        ∙ (ap (λ c. puts setup h.who (view_by view.func c w.last) entry) h.view.counts_is
+        ∙ ap (λ n. puts setup h.who (view_by view.func view.counts n) entry) h.view.last_is)
 
     same_counts : (after setup h.who (view_of w p.func) entry).counts ≡ (after setup h.who view entry).counts
     same_counts =
         ap (λ f. (after setup h.who (view_by f w.counts w.last) entry).counts) func_same
-        ∙ (ap (λ c. (after setup h.who (view_by view.func c w.last) entry).counts) h.counts_is
-        ∙ ap (λ n. (after setup h.who (view_by view.func view.counts n) entry).counts) h.last_is)
+        ∙ (ap (λ c. (after setup h.who (view_by view.func c w.last) entry).counts) h.view.counts_is
+        ∙ ap (λ n. (after setup h.who (view_by view.func view.counts n) entry).counts) h.view.last_is)
 
     abbrev put : List Put
     put = puts setup h.who (view_of w p.func) entry
@@ -149,8 +149,8 @@ module _ (setup : SetupView) (begin : Begin) (keeps : KeepsSteady setup) (place 
         let distinct : AreDistinct (lane_numbers_in w.ins) = ins_distinct setup h.who w k in
         let among : Contains st.lanes p.at.number =
         contains_of_in p.at.number (lanes_in setup.job h.who.number)
-        (subst (λ n. IsIn p.at.number (lanes_in setup.job n)) (sym (number_is setup h.who w k)) (subst (IsIn p.at.number) k.ins_are (in_numbers_at place p.at w.ins p.here))) in
-        let enabled : IsEnabled st progress entry = (among, h.lawful.no_open_turn, h.unended open_, in_time) in
+        (subst (λ n. IsIn p.at.number (lanes_in setup.job n)) (sym (number_is setup h.who w k)) (subst (IsIn p.at.number) k.ins.are (in_numbers_at place p.at w.ins p.here))) in
+        let enabled : IsEnabled st progress entry = (among, h.lawful.no_open_turn, h.closing.unended open_, in_time) in
         let stands : progress_now setup begin h.who longer ≡ progress = progress_after-append (initial st) w.journal (entry ∷ []) in
         let lawful : IsLawfulFrom setup begin h.who v.journal = rw p.journal (record {
           execution = (IsExecution-append st (initial st) w.journal (entry ∷ [])).1 (h.lawful.execution, (enabled, tt));
@@ -160,27 +160,25 @@ module _ (setup : SetupView) (begin : Begin) (keeps : KeepsSteady setup) (place 
         let now_is : now ≡ after setup h.who view entry = rw p.journal (after_all-append setup h.who first w.journal (entry ∷ [])) in
         let numbers : lane_numbers_in v.ins ≡ lane_numbers_in w.ins = rw p.ins (mapped_laid (λ (a : LaneInIs). a.number) place w.ins (λ a. refl)) in
         let edges : edges_of v.ins ≡ edges_of w.ins = rw p.ins (mapped_laid (λ (a : LaneInIs). a.edge) place w.ins (λ a. refl)) in
-        let ends : EachOne (IsEndpointIn setup k.graph) v.ins = rw p.ins (each_laid (IsEndpointIn setup k.graph) place w.ins (end_emptied setup k.graph) k.ends_in) in
-        let takes : EachOne (ShowsTaken setup v.journal) v.ins = rw (p.journal, p.ins) (takes_met setup place p.at w.journal p.tuple w.ins distinct p.here p.held h.takes) in
-        let steady : EachOne IsSteadyIn v.ins = rw p.ins (each_laid IsSteadyIn place w.ins (λ a q. q) h.steady_in) in
+        let taken : HasTakenIn setup v.journal v.ins = record {
+          takes = rw (p.journal, p.ins) (takes_met setup place p.at w.journal p.tuple w.ins distinct p.here p.held h.taken.takes);
+          steady = rw p.ins (each_laid IsSteadyIn place w.ins (λ a q. q) h.taken.steady);
+        } in
         let long : length v.ins ≡ length w.ins = rw p.ins (length_laid place w.ins) in
-        let outs_long : length v.outs ≡ length w.outs = pairs_length (Gains gained) w.outs v.outs p.outs in
         let sends : EachOne (Sends setup begin h.who h.begun v.journal) v.outs = rw p.journal
-        (pairs_each (Gains gained) (Sends setup begin h.who h.begun w.journal) (Sends setup begin h.who h.begun longer) w.outs v.outs sends_more p.outs h.sends) in
+        (pairs_each (Gains gained) (Sends setup begin h.who h.begun w.journal) (Sends setup begin h.who h.begun longer) w.outs v.outs sends_more p.outs h.sent.sends) in
         let placed : IsPlaced setup h.who v = subst (IsPlaced setup h.who) (sym p.rest) (record {
-          who_is = k.who_is;
-          node_is = k.node_is;
-          place_is = k.place_is;
+          stands = k.stands;
           graph = k.graph;
           graph_is = k.graph_is;
-          ins_are = numbers ∙ k.ins_are;
-          ends_in = ends;
-          some_in = rw long p.next;
-          few_in = rw long k.few_in;
-          outs_are = pairs_keep (Gains gained) (λ (o : LaneOutIs). o.number) w.outs v.outs (λ a b f. ap (λ (o : LaneOutIs). o.number) f) p.outs ∙ k.outs_are;
-          ends_out = pairs_each (Gains gained) (IsEndpointOut setup k.graph w.node) (IsEndpointOut setup k.graph w.node) w.outs v.outs (end_gains setup k.graph w.node gained) p.outs k.ends_out;
-          room_in = rw long k.room_in;
-          room_out = rw outs_long k.room_out;
+          ins = record {
+            are = numbers ∙ k.ins.are;
+            ends = rw p.ins (each_laid (IsEndpointIn setup k.graph) place w.ins (end_emptied setup k.graph) k.ins.ends);
+            some = rw long p.next;
+            few = rw long k.ins.few;
+            room = rw long k.ins.room;
+          };
+          outs = outs_gain setup k.graph w.node w.number w.spare_out gained w.outs v.outs p.outs k.outs;
         }) in
         let same_node : v.node ≡ w.node = ap (λ (x : WorkerIs). x.node) p.rest in
         let same_due : v.due ≡ w.due = ap (λ (x : WorkerIs). x.due) p.rest in
@@ -193,18 +191,21 @@ module _ (setup : SetupView) (begin : Begin) (keeps : KeepsSteady setup) (place 
           begun = h.begun;
           begun_is = rw (ap (λ (x : WorkerIs). x.number) p.rest) h.begun_is;
           lawful = lawful;
-          func_is = rw (same_node, ap (λ (x : WorkerIs). x.in_force) p.rest) (h.func_is ∙ ap Some (sym (ap (λ (l : StateView). l.func) now_is)));
-          counts_is = p.counts ∙ (same_counts ∙ sym (ap (λ (l : StateView). l.counts) now_is));
-          last_is = rw (ap (λ (x : WorkerIs). x.last) p.rest) (h.last_is ∙ sym (ap (λ (l : StateView). l.last) now_is));
-          takes = takes;
-          steady_in = steady;
-          sends = sends;
-          steady_out = steady_by setup begin h.who h.begun v keeps placed lawful takes steady sends;
+          view = record {
+            func_is = rw (same_node, ap (λ (x : WorkerIs). x.in_force) p.rest) (h.view.func_is ∙ ap Some (sym (ap (λ (l : StateView). l.func) now_is)));
+            counts_is = p.counts ∙ (same_counts ∙ sym (ap (λ (l : StateView). l.counts) now_is));
+            last_is = rw (ap (λ (x : WorkerIs). x.last) p.rest) (h.view.last_is ∙ sym (ap (λ (l : StateView). l.last) now_is));
+          };
+          taken = taken;
+          sent = record {
+            sends = sends;
+            steady = steady_by setup begin h.who h.begun v keeps placed lawful taken sends;
+          };
           turned_is = rw p.journal (same_turned ∙ (h.turned_is ∙ sym turns));
-          dues_are = rw (p.journal, same_node, same_due, ap (λ (q : Progress). q.dues) stands) h.dues_are;
-          due_is = rw (same_node, same_due, edges) h.due_is;
-          few_turned = rw (same_due, same_turned) h.few_turned;
-          unended = λ c. rw p.journal (ap (λ (q : Progress). q.ended) stands ∙ h.unended open_);
-          finished = λ c. absurd (cc (c, closed));
-          put_down = λ c. absurd (cc (c, closed));
+          due = rw (p.journal, same_node, same_due, same_turned, edges, ap (λ (q : Progress). q.dues) stands) h.due;
+          closing = record {
+            unended = λ c. rw p.journal (ap (λ (q : Progress). q.ended) stands ∙ h.closing.unended open_);
+            finished = λ c. absurd (cc (c, closed));
+            put_down = λ c. absurd (cc (c, closed));
+          };
         }

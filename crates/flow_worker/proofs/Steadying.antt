@@ -21,7 +21,7 @@ use Rattle.flow_model.proofs.LaneLemmas.{lanes_that_in}
 use Rattle.flow_model.proofs.WorkerLemmas.{worker_with}
 use Rattle.flow_worker.specs.Pairs.{EachOne}
 use Rattle.flow_worker.specs.Endpoints.{LaneInIs, IsSteadyIn, IsSteadyOut, LaneOutIs, in_hand, planned}
-use Rattle.flow_worker.specs.Worker.{IsEndpointIn, IsEndpointOut, IsPlaced, IsWorker, Sends, ShowsTaken, WorkerIs, lane_numbers_in}
+use Rattle.flow_worker.specs.Worker.{HasTakenIn, IsEndpointIn, IsEndpointOut, IsPlaced, IsWorker, Sends, ShowsTaken, WorkerIs, lane_numbers_in}
 use Rattle.flow_worker.proofs.Pairs.{each_at, each_of}
 
 -- the two sentences of the law of one worker
@@ -35,13 +35,15 @@ KeepsSteady setup =
     → SendsSteadily setup graph begin who counts journal
 
 -- what the lanes in have shown is steady
-shows_steady : (setup : SetupView) (who : WorkerOf) (graph : Graph) (journal : List Entry) (ins : List LaneInIs) → lane_numbers_in ins ≡ lanes_in setup.job who.number → EachOne (IsEndpointIn setup graph) ins
-    → EachOne (ShowsTaken setup journal) ins → EachOne IsSteadyIn ins → HasSteadyLanes setup graph who journal
-shows_steady setup who graph journal ins are ends takes steady n lane edge g r e =
+shows_steady : (setup : SetupView) (who : WorkerOf) (graph : Graph) (journal : List Entry)
+    (ins : List LaneInIs) → lane_numbers_in ins ≡ lanes_in setup.job who.number
+    → EachOne (IsEndpointIn setup graph) ins → HasTakenIn setup journal ins
+    → HasSteadyLanes setup graph who journal
+shows_steady setup who graph journal ins are ends taken n lane edge g r e =
     let t : (lane.receiver == who.number) ≡ true = eq-eqb lane.receiver who.number r in
     let i : IsIn n (lane_numbers_in ins) = subst (IsIn n) (sym are) (lanes_that_in (λ (l : Lane). l.receiver == who.number) setup.job n lane g t) in
     let a = in_map (λ (a : LaneInIs). a.number) n ins i in
-    go a.0 a.2 (each_at (IsEndpointIn setup graph) a.0 ins ends a.1) (each_at (ShowsTaken setup journal) a.0 ins takes a.1) (each_at IsSteadyIn a.0 ins steady a.1)
+    go a.0 a.2 (each_at (IsEndpointIn setup graph) a.0 ins ends a.1) (each_at (ShowsTaken setup journal) a.0 ins taken.takes a.1) (each_at IsSteadyIn a.0 ins taken.steady a.1)
   where
     go : (a : LaneInIs) → n ≡ a.number → IsEndpointIn setup graph a → ShowsTaken setup journal a → IsSteadyIn a → IsSteady (record { graph = graph; from = edge.from }) (shown setup n journal)
     go a q end t s =
@@ -54,29 +56,40 @@ shows_steady setup who graph journal ins are ends takes steady n lane edge g r e
         let parts : IsSteady (record { graph = graph; from = edge.from }) (shown setup a.number journal ++ in_hand a.hand) = subst (IsSteady (record { graph = graph; from = edge.from })) t taken in
         rw q (IsSteady-front (record { graph = graph; from = edge.from }) (shown setup a.number journal) (in_hand a.hand) parts)
 
-pub works_steadily : (setup : SetupView) (begin : Begin) (who : WorkerOf) (w : WorkerIs) → (k : IsPlaced setup who w) → IsLawfulFrom setup begin who w.journal
-    → EachOne (ShowsTaken setup w.journal) w.ins → EachOne IsSteadyIn w.ins → WorksSteadily setup k.graph begin who w.journal
-works_steadily setup begin who w k lawful takes steady =
-    let number : who.number ≡ w.number = (worker_with setup.job w.number who k.who_is).0 in
+pub works_steadily : (setup : SetupView) (begin : Begin) (who : WorkerOf) (w : WorkerIs)
+    → (k : IsPlaced setup who w) → IsLawfulFrom setup begin who w.journal
+    → HasTakenIn setup w.journal w.ins → WorksSteadily setup k.graph begin who w.journal
+works_steadily setup begin who w k lawful taken =
+    let number : who.number ≡ w.number =
+    (worker_with setup.job w.number who k.stands.who_is).0 in
     record {
-      works = subst (λ n. slice_get (workers_in setup.job) n ≡ Some who) (sym number) k.who_is;
+      works = subst (λ n. slice_get (workers_in setup.job) n ≡ Some who) (sym number)
+          k.stands.who_is;
       lawful = lawful;
-      steady = shows_steady setup who k.graph w.journal w.ins (k.ins_are ∙ ap (lanes_in setup.job) (sym number)) k.ends_in takes steady;
+      steady = shows_steady setup who k.graph w.journal w.ins
+          (k.ins.are ∙ ap (lanes_in setup.job) (sym number)) k.ins.ends taken;
     }
 
 -- so what was and will be sent is steady
-pub steady_by : (setup : SetupView) (begin : Begin) (who : WorkerOf) (begun : Counts) (w : WorkerIs) → KeepsSteady setup → IsPlaced setup who w → IsLawfulFrom setup begin who w.journal
-    → EachOne (ShowsTaken setup w.journal) w.ins → EachOne IsSteadyIn w.ins → EachOne (Sends setup begin who begun w.journal) w.outs → EachOne IsSteadyOut w.outs
-steady_by setup begin who begun w keeps k lawful takes steady sends =
-    each_of IsSteadyOut w.outs (λ o i. one o (each_at (IsEndpointOut setup k.graph w.node) o w.outs k.ends_out i) (each_at (Sends setup begin who begun w.journal) o w.outs sends i))
+pub steady_by : (setup : SetupView) (begin : Begin) (who : WorkerOf) (begun : Counts)
+    (w : WorkerIs) → KeepsSteady setup → IsPlaced setup who w
+    → IsLawfulFrom setup begin who w.journal → HasTakenIn setup w.journal w.ins
+    → EachOne (Sends setup begin who begun w.journal) w.outs → EachOne IsSteadyOut w.outs
+steady_by setup begin who begun w keeps k lawful taken sends =
+    each_of IsSteadyOut w.outs (λ o i.
+    one o (each_at (IsEndpointOut setup k.graph w.node) o w.outs k.outs.ends i)
+    (each_at (Sends setup begin who begun w.journal) o w.outs sends i))
   where
     one : (o : LaneOutIs) → IsEndpointOut setup k.graph w.node o → Sends setup begin who begun w.journal o → IsSteadyOut o
     one o end s =
         let all : IsSteady (record { graph = k.graph; from = who.node }) (items_sent setup who (view_at setup begin.turned who begun) end.lane w.journal) =
-        keeps k.graph begin who begun w.journal k.graph_is (works_steadily setup begin who w k lawful takes steady) end.lane in
+        keeps k.graph begin who begun w.journal k.graph_is (works_steadily setup begin who w k lawful taken) end.lane in
         let mine : IsSteady (record { graph = k.graph; from = who.node }) (planned o) = subst (IsSteady (record { graph = k.graph; from = who.node })) (sym (s end.lane end.numbered)) all in
-        let from : record { graph = k.graph; from = who.node } ≡ o.origin = sym (end.origin_is ∙ ap (λ n. record { graph = k.graph; from = n }) k.node_is) in
+        let from : record { graph = k.graph; from = who.node } ≡ o.origin = sym (end.origin_is ∙ ap (λ n. record { graph = k.graph; from = n }) k.stands.node_is) in
         subst (λ (g : Origin). IsSteady g (planned o)) from mine
 
-pub worker_agreement : (setup : SetupView) (begin : Begin) (w : WorkerIs) → KeepsAgreement setup → IsWorker setup begin w → Agreement setup w.journal
-worker_agreement setup begin w keeps h = keeps h.placed.graph begin h.who w.journal h.placed.graph_is (works_steadily setup begin h.who w h.placed h.lawful h.takes h.steady_in)
+pub worker_agreement : (setup : SetupView) (begin : Begin) (w : WorkerIs) → KeepsAgreement setup
+    → IsWorker setup begin w → Agreement setup w.journal
+worker_agreement setup begin w keeps h =
+    keeps h.placed.graph begin h.who w.journal h.placed.graph_is
+    (works_steadily setup begin h.who w h.placed h.lawful h.taken)

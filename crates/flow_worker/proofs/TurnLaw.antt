@@ -23,13 +23,14 @@ use Rattle.flow_model.specs.Run.{IsLawfulFrom}
 use Rattle.flow_model.specs.Duties.{dues_after, duties}
 use Rattle.flow_model.proofs.ElementLemmas.{AreDistinct, IsIn, all_of_at, contains_of_in, in_of_place}
 use Rattle.flow_model.proofs.JournalLemmas.{IsExecution-append, after_all-append, progress_after-append, sent-append, shown-append}
-use Rattle.flow_worker.specs.Pairs.{EachOne}
-use Rattle.flow_worker.specs.Endpoints.{Gains, LaneInIs, IsSteadyIn, IsSteadyOut, LaneOutIs, planned}
+use Rattle.flow_worker.specs.Pairs.{EachOne, EachPair}
+use Rattle.flow_worker.specs.Endpoints.{Gains, LaneInIs, IsSteadyIn, LaneOutIs, planned}
 use Rattle.flow_model.specs.Dues.{AreDues, IsDueOf}
 use Rattle.flow_model.specs.InForce.{counts_with, func_in}
-use Rattle.flow_worker.specs.Worker.{IsEndpointIn, IsEndpointOut, IsPlaced, IsWorker, Sends, ShowsTaken, WorkerIs, edges_of, view_now, lane_numbers_in, progress_now}
+use Rattle.flow_worker.specs.Worker.{IsEndpointIn, IsEndpointOut, IsPlaced, IsWorker, Sends, ShowsTaken, WorkerIs, edges_of, view_now, lane_numbers_in, progress_now, AreLanesOut, HasTakenIn}
 use Rattle.flow_worker.specs.Steps.{HasTurned, emptied, marked_entries, marker_on}
-use Rattle.flow_worker.proofs.Pairs.{each_both, each_of, get_mapped, pairs_each, pairs_keep, pairs_length}
+use Rattle.sink_journal.proofs.SmallLemmas.{get_mapped}
+use Rattle.flow_worker.proofs.Pairs.{each_both, each_of, pairs_each, pairs_keep, pairs_length}
 use Rattle.flow_worker.proofs.Marking.{AreMarked, HoldMarker, at_onto, view_marks, marks_follow, marks_onto, progress_marks, sent_marks, show_marker, shown_marks, takes_marked, turned-append, turned_marks}
 use Rattle.flow_worker.proofs.PlaceLemmas.{in_marked, ins_distinct, marked_in, number_is, out_lane_edge, out_sends, placed_edges, turn_puts}
 use Rattle.flow_worker.proofs.Steadying.{KeepsSteady, steady_by}
@@ -62,6 +63,19 @@ end_emptied setup graph a e = record { lane = e.lane; edge = e.edge; numbered = 
 pub end_gains : (setup : SetupView) (graph : Graph) (node : ℕ) (items : LaneOutIs → List Item) (a b : LaneOutIs) → Gains items a b → IsEndpointOut setup graph node a → IsEndpointOut setup graph node b
 end_gains setup graph node items a b g e =
     subst (IsEndpointOut setup graph node) (sym g) (record { lane = e.lane; numbered = e.numbered; edge_is = e.edge_is; origin_is = e.origin_is })
+
+-- lanes out that gain items stay where they are
+pub outs_gain : (setup : SetupView) (graph : Graph) (node number spare : ℕ)
+    (more : LaneOutIs → List Item) (outs later : List LaneOutIs)
+    → EachPair (Gains more) outs later → AreLanesOut setup graph node number spare outs
+    → AreLanesOut setup graph node number spare later
+outs_gain setup graph node number spare more outs later pairs h = record {
+  are = pairs_keep (Gains more) (λ (o : LaneOutIs). o.number) outs later
+      (λ a b f. ap (λ (o : LaneOutIs). o.number) f) pairs ∙ h.are;
+  ends = pairs_each (Gains more) (IsEndpointOut setup graph node)
+      (IsEndpointOut setup graph node) outs later (end_gains setup graph node more) pairs h.ends;
+  room = rw (pairs_length (Gains more) outs later pairs) h.room;
+}
 
 are_marked : (st : Duties) (r mask i : ℕ) (ins : List LaneInIs) → ((k : ℕ) (a : LaneInIs) → slice_get ins k ≡ Some a → has mask (i + k) ≡ true → IsIn a.number (st.marked_lanes r)) → AreMarked st r mask i ins
 are_marked st r mask i [] f = tt
@@ -100,10 +114,10 @@ module _ (setup : SetupView) (begin : Begin) (keeps : KeepsSteady setup) (due : 
     view = view_now setup begin h.who h.begun w.journal
 
     is : IsDueOf setup w.node (edges_of w.ins) due
-    is = subst (λ (o : Option Due). IfSome o (IsDueOf setup w.node (edges_of w.ins))) due_is h.due_is
+    is = subst (λ (o : Option Due). IfSome o (IsDueOf setup w.node (edges_of w.ins))) due_is h.due.due_is
 
     dues : progress.dues ≡ due.request ∷ dues_after setup due.request w.node
-    dues = subst (AreDues setup w.node progress.dues) due_is h.dues_are
+    dues = subst (AreDues setup w.node progress.dues) due_is h.due.dues_are
 
     is_next : next_due progress.dues ≡ Some due.request
     is_next = ap next_due dues
@@ -121,7 +135,7 @@ module _ (setup : SetupView) (begin : Begin) (keeps : KeepsSteady setup) (due : 
         (sym (is.lanes k a.edge (get_mapped (λ (a : LaneInIs). a.edge) w.ins k a g)) ∙ from_zero due.lanes k b)
 
     marks_lawful : IsExecution st progress marks
-    marks_lawful = marks_follow st due.request due.lanes 0 progress w.ins is_next (h.unended open_) distinct
+    marks_lawful = marks_follow st due.request due.lanes 0 progress w.ins is_next (h.closing.unended open_) distinct
         (λ n i. absurd (subst (IsIn n) h.lawful.no_open_turn i))
         (are_marked st due.request due.lanes 0 w.ins mask_marks)
 
@@ -138,7 +152,7 @@ module _ (setup : SetupView) (begin : Begin) (keeps : KeepsSteady setup) (due : 
     turn_enabled : IsEnabled st (progress_after progress marks) (Turned due.request)
     turn_enabled =
         subst (λ (p : Progress). IsEnabled st p (Turned due.request)) (sym (progress_marks due.lanes due.request 0 progress w.ins))
-        (is_next, all_of_at (Contains onto) (marked_lanes setup who.number due.request) (λ n i. contains_of_in n onto (covered n i)), h.unended open_)
+        (is_next, all_of_at (Contains onto) (marked_lanes setup who.number due.request) (λ n i. contains_of_in n onto (covered n i)), h.closing.unended open_)
 
     all_progress : progress_now setup begin h.who turned_journal ≡ record progress { dues = later_dues progress.dues; marked = [] }
     all_progress =
@@ -165,7 +179,7 @@ module _ (setup : SetupView) (begin : Begin) (keeps : KeepsSteady setup) (due : 
 
     turned_takes : EachOne (ShowsTaken setup turned_journal) (emptied due.lanes 0 w.ins)
     turned_takes = takes_marked setup due.lanes due.request due.cover 0 w.journal turned_journal marks w.ins is.marker_is shown_split
-        (show_marker setup due.lanes due.request 0 marks w.ins (λ k a q. shown_marks setup due.lanes due.request 0 k a w.ins distinct q)) held h.takes
+        (show_marker setup due.lanes due.request 0 marks w.ins (λ k a q. shown_marks setup due.lanes due.request 0 k a w.ins distinct q)) held h.taken.takes
 
     turned_sent : (lane : Lane) → IsIn lane (lanes_out setup.job who.number)
         → items_sent setup h.who (view_at setup begin.turned h.who h.begun) lane turned_journal
@@ -210,48 +224,45 @@ module _ (setup : SetupView) (begin : Begin) (keeps : KeepsSteady setup) (due : 
     pub turned_law : (v : WorkerIs) → HasTurned setup due w v → IsWorker setup begin v
     turned_law v t =
         let k = h.placed in
-        let node : w.node ≡ who.node = k.node_is in
+        let node : w.node ≡ who.node = k.stands.node_is in
         let numbers : lane_numbers_in v.ins ≡ lane_numbers_in w.ins = rw t.ins (mapped_emptied (λ (a : LaneInIs). a.number) due.lanes 0 w.ins (λ a. refl)) in
         let edges : edges_of v.ins ≡ edges_of w.ins = rw t.ins (mapped_emptied (λ (a : LaneInIs). a.edge) due.lanes 0 w.ins (λ a. refl)) in
-        let ends : EachOne (IsEndpointIn setup k.graph) v.ins = rw t.ins (each_emptied (IsEndpointIn setup k.graph) due.lanes 0 w.ins (end_emptied setup k.graph) k.ends_in) in
         let long : length v.ins ≡ length w.ins = rw t.ins (length_emptied due.lanes 0 w.ins) in
-        let outs_long : length v.outs ≡ length w.outs = pairs_length (Gains marker_of) w.outs v.outs t.outs in
-        let takes : EachOne (ShowsTaken setup v.journal) v.ins = rw (t.journal, t.ins) turned_takes in
-        let steady : EachOne IsSteadyIn v.ins = rw t.ins (each_emptied IsSteadyIn due.lanes 0 w.ins (λ a q. q) h.steady_in) in
+        let taken : HasTakenIn setup v.journal v.ins = record {
+          takes = rw (t.journal, t.ins) turned_takes;
+          steady = rw t.ins (each_emptied IsSteadyIn due.lanes 0 w.ins (λ a q. q) h.taken.steady);
+        } in
         let lawful : IsLawfulFrom setup begin h.who v.journal = rw t.journal turned_lawful in
         let sends : EachOne (Sends setup begin h.who h.begun v.journal) v.outs = rw t.journal
         (pairs_each (Gains marker_of) (λ o. Sends setup begin h.who h.begun w.journal o × IsIn o w.outs) (Sends setup begin h.who h.begun turned_journal) w.outs v.outs turned_out t.outs
-        (each_both (Sends setup begin h.who h.begun w.journal) (λ o. IsIn o w.outs) w.outs h.sends (each_of (λ o. IsIn o w.outs) w.outs (λ o i. i)))) in
+        (each_both (Sends setup begin h.who h.begun w.journal) (λ o. IsIn o w.outs) w.outs h.sent.sends (each_of (λ o. IsIn o w.outs) w.outs (λ o i. i)))) in
         let placed : IsPlaced setup h.who v = subst (IsPlaced setup h.who) (sym t.rest) (record {
-          who_is = k.who_is;
-          node_is = k.node_is;
-          place_is = k.place_is;
+          stands = k.stands;
           graph = k.graph;
           graph_is = k.graph_is;
-          ins_are = numbers ∙ k.ins_are;
-          ends_in = ends;
-          some_in = rw long k.some_in;
-          few_in = rw long k.few_in;
-          outs_are = pairs_keep (Gains marker_of) (λ (o : LaneOutIs). o.number) w.outs v.outs (λ a b f. ap (λ (o : LaneOutIs). o.number) f) t.outs ∙ k.outs_are;
-          ends_out = pairs_each (Gains marker_of) (IsEndpointOut setup k.graph w.node) (IsEndpointOut setup k.graph w.node) w.outs v.outs (end_gains setup k.graph w.node marker_of) t.outs k.ends_out;
-          room_in = rw long k.room_in;
-          room_out = rw outs_long k.room_out;
+          ins = record {
+            are = numbers ∙ k.ins.are;
+            ends = rw t.ins (each_emptied (IsEndpointIn setup k.graph) due.lanes 0 w.ins (end_emptied setup k.graph) k.ins.ends);
+            some = rw long k.ins.some;
+            few = rw long k.ins.few;
+            room = rw long k.ins.room;
+          };
+          outs = outs_gain setup k.graph w.node w.number w.spare_out marker_of w.outs v.outs t.outs k.outs;
         }) in
         let all_dues : (progress_now setup begin h.who v.journal).dues ≡ dues_after setup due.request w.node = rw t.journal (ap (λ (p : Progress). p.dues) all_progress ∙ ap later_dues dues) in
         let change : change_by setup due.request w.node ≡ change_by setup due.request who.node = ap (change_by setup due.request) node in
         let now : StateView = view_now setup begin h.who h.begun v.journal in
         let now_is : now ≡ after setup h.who view (Turned due.request) = rw t.journal turned_view in
         let func : func_in setup w.node v.in_force ≡ Some now.func =
-        t.func view.func h.func_is
+        t.func view.func h.view.func_is
         ∙ ap Some (ap (λ (o : Option Change). func_with o view.func) change ∙ (func_turned (change_by setup due.request who.node) view ∙ sym (ap (λ (l : StateView). l.func) now_is))) in
         let counts : v.counts ≡ now.counts =
-        t.counts ∙ (ap (counts_with (change_by setup due.request w.node)) h.counts_is
+        t.counts ∙ (ap (counts_with (change_by setup due.request w.node)) h.view.counts_is
         ∙ (ap (λ (o : Option Change). counts_with o view.counts) change ∙ (counts_turned (change_by setup due.request who.node) view ∙ sym (ap (λ (l : StateView). l.counts) now_is)))) in
         let last : v.last ≡ now.last = t.last ∙ sym (ap (λ (l : StateView). l.last) now_is) in
         let few : IfSome v.due (λ (d : Due). v.owner.turned < d.request) = few_after v.due t.later.later (t.turned) in
         let turns : v.owner.turned ≡ length (turned v.journal) = rw t.journal (t.turned ∙ (ap (λ n. n + 1) h.turned_is ∙ sym turned_turns)) in
-        let steady_out : EachOne IsSteadyOut v.outs = steady_by setup begin h.who h.begun v keeps placed lawful takes steady sends in
-        let ended : (progress_now setup begin h.who v.journal).ended ≡ [] = rw t.journal (ap (λ (p : Progress). p.ended) all_progress ∙ h.unended open_) in
+        let ended : (progress_now setup begin h.who v.journal).ended ≡ [] = rw t.journal (ap (λ (p : Progress). p.ended) all_progress ∙ h.closing.unended open_) in
         let same_node : v.node ≡ w.node = ap (λ (x : WorkerIs). x.node) t.rest in
         let closed : v.closed ≡ false = ap (λ (x : WorkerIs). x.closed) t.rest ∙ open_ in
         record {
@@ -260,24 +271,31 @@ module _ (setup : SetupView) (begin : Begin) (keeps : KeepsSteady setup) (due : 
           begun = h.begun;
           begun_is = rw (ap (λ (x : WorkerIs). x.number) t.rest) h.begun_is;
           lawful = lawful;
-          func_is = rw same_node func;
-          counts_is = counts;
-          last_is = last;
-          takes = takes;
-          steady_in = steady;
-          sends = sends;
-          steady_out = steady_out;
+          view = record {
+            func_is = rw same_node func;
+            counts_is = counts;
+            last_is = last;
+          };
+          taken = taken;
+          sent = record {
+            sends = sends;
+            steady = steady_by setup begin h.who h.begun v keeps placed lawful taken sends;
+          };
           turned_is = turns;
-          dues_are = rw same_node (subst (λ (ds : List ℕ). AreDues setup w.node ds v.due) (sym all_dues) t.later.dues);
-          due_is = rw (same_node, edges) (subst (λ (es : List ℕ). IfSome v.due (IsDueOf setup w.node es)) (sym (placed_edges setup h.who w k)) t.later.is_due);
-          few_turned = few;
-          unended = λ c. ended;
-          finished = λ c. absurd (cc (c, closed));
-          put_down = λ c. absurd (cc (c, closed));
+          due = record {
+            dues_are = rw same_node (subst (λ (ds : List ℕ). AreDues setup w.node ds v.due) (sym all_dues) t.later.dues);
+            due_is = rw (same_node, edges) (subst (λ (es : List ℕ). IfSome v.due (IsDueOf setup w.node es)) (sym (placed_edges setup h.who w k)) t.later.is_due);
+            few_turned = few;
+          };
+          closing = record {
+            unended = λ c. ended;
+            finished = λ c. absurd (cc (c, closed));
+            put_down = λ c. absurd (cc (c, closed));
+          };
         }
       where
         few_after : (o : Option Due) → IfSome o (λ (d : Due). due.request < d.request) → v.owner.turned ≡ w.owner.turned + 1 → IfSome o (λ (d : Due). v.owner.turned < d.request)
         few_after None l e = tt
         few_after (Some d) l e =
-            let before : w.owner.turned < due.request = subst (λ (o : Option Due). IfSome o (λ (d : Due). w.owner.turned < d.request)) due_is h.few_turned in
+            let before : w.owner.turned < due.request = subst (λ (o : Option Due). IfSome o (λ (d : Due). w.owner.turned < d.request)) due_is h.due.few_turned in
             omega (arith, l, e, before)

@@ -344,7 +344,7 @@ module _ (setup : SetupView) (agrees : KeepsAgreement setup) (keeps : KeepsStead
           let its_head : its.head ≡ true = ap (λ (d : Due). d.head) same ∙ head in
           let either : posted || list_any (is_issued its.request) (hands w3) ≡ true =
           subst (λ (b : Bool). cond b (posted || list_any (is_issued its.request) (hands w3)) (is_aligned its (hands w3)) ≡ true) its_head may in
-          let its_due : IsDueOf setup w3.node (edges_of w3.ins) its = subst (λ (o : Option Due). IfSome o (IsDueOf setup w3.node (edges_of w3.ins))) t.1 h3.due_is in
+          let its_due : IsDueOf setup w3.node (edges_of w3.ins) its = subst (λ (o : Option Due). IfSome o (IsDueOf setup w3.node (edges_of w3.ins))) t.1 h3.due.due_is in
           let ins : v.ins ≡ w3.ins = t.4.ins ∙ emptied_none its.lanes 0 w3.ins
           (λ k a g b. head_places setup h3.who w3 its planned_is h3.placed its_due its_head k a g (subst (λ m. has its.lanes m ≡ true) (omega arith) b)) in
           go posted refl its either (ap all_hands ins) t.2
@@ -369,7 +369,7 @@ module _ (setup : SetupView) (agrees : KeepsAgreement setup) (keeps : KeepsStead
 
       pub did_moved : (IsDone v → ⊥) → IsTurn setup turn.Moved w v
       did_moved not = did_turn turn.Moved
-          ((let grew = grew_done setup h3.who w3.due act w3 v (let s = h3.placed.some_in in omega arith) done in let least = moves_least in omega (arith, grew, least)), not)
+          ((let grew = grew_done setup h3.who w3.due act w3 v (let s = h3.placed.ins.some in omega arith) done in let least = moves_least in omega (arith, grew, least)), not)
 
       pub did_done : v.closed ≡ true → list_any is_waiting v.outs ≡ false → IsTurn setup turn.Done w v
       did_done closed e = did_turn turn.Done (closed, waiting_none v.outs e)

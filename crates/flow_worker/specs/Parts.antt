@@ -51,18 +51,18 @@ pub record AreNewEndpoints (job : JobView) (worker : ℕ) (ins outs : List Endpo
   pub outs_are : map (λ (end : EndpointIs). end.number) outs ≡ out_numbers job worker
   pub new_out : EachOne (IsNewEndpoint job graph) outs
 
--- a beginning has this start of a worker
-pub record IsStartOf (begin : Begin) (start : WorkerStart) : Type 0 where
+-- a beginning has this start of the worker with this number
+pub record IsStartOf (begin : Begin) (number : ℕ) (start : WorkerStart) : Type 0 where
   pub turned_is : start.turned ≡ begin.turned
-  pub counts_are : slice_get begin.states start.number ≡ Some start.counts
+  pub counts_are : slice_get begin.states number ≡ Some start.counts
 
--- the state of a worker where a beginning is
-pub record IsStateAt (setup : SetupView) (begin : Begin) (at : Beginning) : Type 0 where
-  pub begun_is : slice_get begin.states at.number ≡ Some at.state.counts
+-- the state of the worker with this number where a beginning is
+pub record IsStateAt (setup : SetupView) (begin : Begin) (number : ℕ) (at : Beginning) : Type 0 where
+  pub begun_is : slice_get begin.states number ≡ Some at.state.counts
   pub turned_is : at.turned ≡ begin.turned
   pub func_is :
-      func_in setup (nth_worker setup.job at.number).node at.state.func
-      ≡ Some (view_at setup begin.turned (nth_worker setup.job at.number) at.state.counts).func
+      func_in setup (nth_worker setup.job number).node at.state.func
+      ≡ Some (view_at setup begin.turned (nth_worker setup.job number) at.state.counts).func
   pub last_is :
       at.state.last
-      ≡ (view_at setup begin.turned (nth_worker setup.job at.number) at.state.counts).last
+      ≡ (view_at setup begin.turned (nth_worker setup.job number) at.state.counts).last

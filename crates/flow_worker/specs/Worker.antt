@@ -93,22 +93,36 @@ pub record IsEndpointOut (setup : SetupView) (graph : Graph) (node : ℕ) (out :
   pub edge_is : out.edge ≡ lane.edge
   pub origin_is : out.origin ≡ record { graph = graph; from = node }
 
--- what the worker keeps of its setup: its node and place, and its lanes in the order of their
--- numbers
+-- the worker of a job with a number stands there
+pub record IsAtPlace (job : JobView) (who : Worker) (number node place : ℕ) : Type 0 where
+  pub who_is : slice_get (workers_in job) number ≡ Some who
+  pub node_is : node ≡ who.node
+  pub place_is : place ≡ who.place
+
+-- the lanes into the worker with a number, in the order of their numbers; the search for a tuple
+-- begins at one of them, and `finish` has memory for all
+pub record AreLanesIn (setup : SetupView) (graph : Graph) (number next spare : ℕ)
+    (ins : List LaneInIs) : Type 0 where
+  pub are : lane_numbers_in ins ≡ lanes_in setup.job number
+  pub ends : EachOne (IsEndpointIn setup graph) ins
+  pub some : next < length ins
+  pub few : length ins ≤ MAX_LANES_IN
+  pub room : length ins ≤ spare
+
+-- the lanes out of it, in the order of their numbers; `finish` has memory for all
+pub record AreLanesOut (setup : SetupView) (graph : Graph) (node number spare : ℕ)
+    (outs : List LaneOutIs) : Type 0 where
+  pub are : lane_numbers_out outs ≡ out_numbers setup.job number
+  pub ends : EachOne (IsEndpointOut setup graph node) outs
+  pub room : length outs ≤ spare
+
+-- what the worker keeps of its setup: its node and place, and its lanes
 pub record IsPlaced (setup : SetupView) (who : Worker) (w : WorkerIs) : Type 0 where
-  pub who_is : slice_get (workers_in setup.job) w.number ≡ Some who
-  pub node_is : w.node ≡ who.node
-  pub place_is : w.place ≡ who.place
+  pub stands : IsAtPlace setup.job who w.number w.node w.place
   pub graph : Graph
   pub graph_is : IsGraphOf setup.job graph
-  pub ins_are : lane_numbers_in w.ins ≡ lanes_in setup.job w.number
-  pub ends_in : EachOne (IsEndpointIn setup graph) w.ins
-  pub some_in : w.next < length w.ins
-  pub few_in : length w.ins ≤ MAX_LANES_IN
-  pub outs_are : lane_numbers_out w.outs ≡ out_numbers setup.job w.number
-  pub ends_out : EachOne (IsEndpointOut setup graph w.node) w.outs
-  pub room_in : length w.ins ≤ w.spare_in
-  pub room_out : length w.outs ≤ w.spare_out
+  pub ins : AreLanesIn setup graph w.number w.next w.spare_in w.ins
+  pub outs : AreLanesOut setup graph w.node w.number w.spare_out w.outs
 
 -- what is in force after a journal, and how far it has come
 abbrev pub view_now : SetupView → Begin → Worker → Counts → List Entry → StateView
@@ -129,33 +143,54 @@ Sends setup begin who counts journal out =
     (lane : Lane) → slice_get (lanes setup.job) out.number ≡ Some lane →
     planned out ≡ items_sent setup who (view_at setup begin.turned who counts) lane journal
 
--- the law of a worker of a setup, from a beginning on
+-- function, counts and latest request turned are those of a view
+pub record HasView (setup : SetupView) (view : StateView) (node : ℕ) (in_force : InForce)
+    (counts : Counts) (last : ℕ) : Type 0 where
+  pub func_is : func_in setup node in_force ≡ Some view.func
+  pub counts_is : counts ≡ view.counts
+  pub last_is : last ≡ view.last
+
+-- what was taken from each lane is what the journal shows followed by what is in hand, and is
+-- steady
+pub record HasTakenIn (setup : SetupView) (journal : List Entry) (ins : List LaneInIs)
+    : Type 0 where
+  pub takes : EachOne (ShowsTaken setup journal) ins
+  pub steady : EachOne IsSteadyIn ins
+
+-- what was sent on each lane and what waits is what the replay sends, and is steady
+pub record HasSentOut (setup : SetupView) (begin : Begin) (who : Worker) (counts : Counts)
+    (journal : List Entry) (outs : List LaneOutIs) : Type 0 where
+  pub sends : EachOne (Sends setup begin who counts journal) outs
+  pub steady : EachOne IsSteadyOut outs
+
+-- the next due is the first of the dues that are left; its owner has not acknowledged it
+pub record KnowsDue (setup : SetupView) (node : ℕ) (edges dues : List ℕ) (acknowledged : ℕ)
+    (due : Option Due) : Type 0 where
+  pub dues_are : AreDues setup node dues due
+  pub due_is : IfSome due (IsDueOf setup node edges)
+  pub few_turned : IfSome due (λ (due : Due). acknowledged < due.request)
+
+-- before it has closed no lane has ended; then the journal is finished, and the hands are empty
+pub record IsOpenOrFinished (setup : SetupView) (begin : Begin) (who : Worker)
+    (journal : List Entry) (closed : Bool) (ins : List LaneInIs) : Type 0 where
+  pub unended : closed ≡ false → (progress_now setup begin who journal).ended ≡ []
+  pub finished : closed ≡ true → IsFinishedFrom setup begin who journal
+  pub put_down : closed ≡ true → EachOne (λ (a : LaneInIs). a.hand ≡ Empty) ins
+
+-- The law of a worker of a setup, from a beginning on: the journal is lawful so far; the worker has
+-- the view of its replay; and the owner has acknowledged as many turns as the journal has.
 pub record IsWorker (setup : SetupView) (begin : Begin) (w : WorkerIs) : Type 0 where
   pub who : Worker
   pub placed : IsPlaced setup who w
   pub begun : Counts
   pub begun_is : slice_get begin.states w.number ≡ Some begun
-  -- first, the journal is lawful so far
   pub lawful : IsLawfulFrom setup begin who w.journal
-  -- second, function, counts and latest request turned are those of its replay
-  pub func_is :
-      func_in setup w.node w.in_force ≡ Some (view_now setup begin who begun w.journal).func
-  pub counts_is : w.counts ≡ (view_now setup begin who begun w.journal).counts
-  pub last_is : w.last ≡ (view_now setup begin who begun w.journal).last
-  -- third, what was taken from each lane is what the journal shows followed by what is in hand,
-  -- and is steady
-  pub takes : EachOne (ShowsTaken setup w.journal) w.ins
-  pub steady_in : EachOne IsSteadyIn w.ins
-  -- fourth, what was sent on each lane and what waits is what the replay sends, and is steady
-  pub sends : EachOne (Sends setup begin who begun w.journal) w.outs
-  pub steady_out : EachOne IsSteadyOut w.outs
-  -- fifth, the owner has acknowledged as many turns as the journal has; the next due is that of the
-  -- law of a journal
+  pub view :
+      HasView setup (view_now setup begin who begun w.journal) w.node w.in_force w.counts w.last
+  pub taken : HasTakenIn setup w.journal w.ins
+  pub sent : HasSentOut setup begin who begun w.journal w.outs
   pub turned_is : w.owner.turned ≡ length (turned w.journal)
-  pub dues_are : AreDues setup w.node (progress_now setup begin who w.journal).dues w.due
-  pub due_is : IfSome w.due (IsDueOf setup w.node (edges_of w.ins))
-  pub few_turned : IfSome w.due (λ (due : Due). w.owner.turned < due.request)
-  -- before it has closed no lane has ended; then the journal is finished, and the hands are empty
-  pub unended : w.closed ≡ false → (progress_now setup begin who w.journal).ended ≡ []
-  pub finished : w.closed ≡ true → IsFinishedFrom setup begin who w.journal
-  pub put_down : w.closed ≡ true → EachOne (λ (a : LaneInIs). a.hand ≡ Empty) w.ins
+  pub due :
+      KnowsDue setup w.node (edges_of w.ins) (progress_now setup begin who w.journal).dues
+      w.owner.turned w.due
+  pub closing : IsOpenOrFinished setup begin who w.journal w.closed w.ins

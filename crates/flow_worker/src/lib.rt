@@ -10,7 +10,8 @@
 //!
 //! ```
 //! let mut need = lanes.need();
-//! let mut worker = Worker::make(alloc, &setup, 0, ins, outs, owner)?;
+//! let who = SetupWorker { setup: &setup, number: 0 };
+//! let mut worker = Worker::make(alloc, who, ins, outs, owner)?;
 //! let turn = worker.turn(&mut need, &setup, &OpenGate);
 //! ```
 #![tactic(auto)]

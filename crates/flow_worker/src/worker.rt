@@ -5,7 +5,7 @@ ghost use Rattle.std.specs.List.{list_any};
 ghost use Rattle.marker_align.specs.Decision.{decided};
 ghost use Rattle.flow_model.specs.Begin.{Begin, at_first};
 ghost use Rattle.flow_model.specs.Setup.{setup_view};
-ghost use Rattle.flow_model.specs.Workers.{workers_in};
+ghost use Rattle.flow_model.specs.SetupWorker.{setup_here};
 ghost use Rattle.flow_worker.specs.Endpoints.{IsSteadyOut, sent_in_all, all_taken, is_waiting};
 ghost use Rattle.flow_worker.specs.Pairs.{EachOne};
 ghost use Rattle.flow_worker.specs.Parts.{AreNewEndpoints, IsStartOf, IsStateAt, endpoint_in};
@@ -19,7 +19,7 @@ use crate::lanes_out::LanesOut;
 use crate::parts::{Parts, Worked, new_ins, new_outs, part_ins, part_outs};
 use crate::worker::acting::Acted;
 use control_box::Owner;
-use flow_model::{Setup, WorkerState, workers_keep_steady};
+use flow_model::{Setup, SetupWorker, WorkerState, workers_keep_steady};
 use keyed_state::Keyed;
 use lane_core::Lanes;
 use marker_align::{Act, Due};
@@ -110,8 +110,6 @@ impl<L: Lanes> Model for Worker<L> {
 /// Where a worker begins.
 #[derive(Drop)]
 pub struct WorkerStart {
-    /// The number of the worker.
-    pub number: u32,
     /// How many requests were turned before.
     pub turned: u64,
     /// What the worker has counted.
@@ -121,42 +119,35 @@ pub struct WorkerStart {
 // Where a worker begins, and what is in force there.
 #[derive(Drop)]
 pub(crate) struct Beginning {
-    number: u32,
     turned: u64,
     state: WorkerState,
 }
 
 impl<L: Lanes> Worker<L> {
-    /// Makes the worker with this number, at the beginning of a run.
+    /// Makes a worker of a setup, at the beginning of a run.
     ///
     /// `ins` and `outs` are the endpoints of the worker's lanes, in the order of the lanes'
     /// numbers. `owner` is its end of a new box. The one error is out of memory; it gives the
     /// endpoints up.
     pub fn make(
         alloc: Global,
-        setup: &Setup,
-        number: u32,
+        who: SetupWorker<'_>,
         ins: Vec<L::Rx>,
         outs: Vec<L::Tx>,
         owner: Owner,
     ) -> Result<Worker<L>, NoMemory>
-        requires there { number < length (workers_in (setup_view setup.now).job) }
-        requires ends { AreNewEndpoints (setup_view setup.now).job number
+        requires ends { AreNewEndpoints (setup_here who).job who.number
             (map L.Rx.state ins.items) (map L.Tx.state outs.items) }
         requires owner { owner.turned ≡ 0 }
-        ensures law { IfOk result (IsWorker (setup_view setup.now)
-            (at_first (setup_view setup.now))) }
+        ensures law { IfOk result (IsWorker (setup_here who.entry)
+            (at_first (setup_here who.entry))) }
         ensures ins { IfOk result (λ w. map endpoint_in w.ins ≡ map L.Rx.state ins.items) }
         ensures outs { IfOk result (λ w. map endpoint_out w.outs ≡ map L.Tx.state outs.items) }
         ensures owner { IfOk result (λ w. w.owner ≡ owner) }
     {
         let state = WorkerState::new(alloc);
-        let beginning = Beginning {
-            number,
-            turned: 0,
-            state,
-        };
-        Worker::begin(alloc, setup, ins, outs, owner, beginning)
+        let beginning = Beginning { turned: 0, state };
+        Worker::begin(alloc, who, ins, outs, owner, beginning)
     }
 
     /// Makes the worker of a start, with what the requests that were turned before have put in
@@ -167,68 +158,54 @@ impl<L: Lanes> Worker<L> {
     /// gives the endpoints and the counts up.
     pub fn make_from(
         alloc: Global,
-        setup: &Setup,
+        who: SetupWorker<'_>,
         ins: Vec<L::Rx>,
         outs: Vec<L::Tx>,
         owner: Owner,
         start: WorkerStart,
     ) -> Result<Worker<L>, NoMemory>
-        requires there { start.number < length (workers_in (setup_view setup.now).job) }
-        requires ends { AreNewEndpoints (setup_view setup.now).job start.number
+        requires ends { AreNewEndpoints (setup_here who).job who.number
             (map L.Rx.state ins.items) (map L.Tx.state outs.items) }
         requires owner { owner.turned ≡ 0 }
-        requires turned { start.turned ≤ length (setup_view setup.now).requests }
-        ensures law { IfOk result (λ w. (begin : Begin) → IsStartOf begin start
-            → IsWorker (setup_view setup.now) begin w) }
+        requires turned { start.turned ≤ length (setup_here who).requests }
+        ensures law { IfOk result (λ w. (begin : Begin) → IsStartOf begin who.entry.number start
+            → IsWorker (setup_here who.entry) begin w) }
         ensures ins { IfOk result (λ w. map endpoint_in w.ins ≡ map L.Rx.state ins.items) }
         ensures outs { IfOk result (λ w. map endpoint_out w.outs ≡ map L.Tx.state outs.items) }
         ensures owner { IfOk result (λ w. w.owner ≡ owner) }
     {
-        let WorkerStart {
-            number,
-            turned,
-            counts,
-        } = start;
+        let WorkerStart { turned, counts } = start;
         let state = WorkerState {
-            func: setup.in_force_after(setup.node_of(number), turned),
+            func: who.setup.in_force_after(who.node(), turned),
             counts,
-            last: setup.last_covering(number, turned),
+            last: who.setup.last_covering(who.number, turned),
             ended: 0,
         };
-        let beginning = Beginning {
-            number,
-            turned,
-            state,
-        };
-        Worker::begin(alloc, setup, ins, outs, owner, beginning)
+        Worker::begin(alloc, who, ins, outs, owner, Beginning { turned, state })
     }
 
     // Makes the worker of a beginning.
     fn begin(
         alloc: Global,
-        setup: &Setup,
+        who: SetupWorker<'_>,
         ins: Vec<L::Rx>,
         outs: Vec<L::Tx>,
         owner: Owner,
         beginning: Beginning,
     ) -> Result<Worker<L>, NoMemory>
-        requires there { beginning.number < length (workers_in (setup_view setup.now).job) }
-        requires ends { AreNewEndpoints (setup_view setup.now).job beginning.number
+        requires ends { AreNewEndpoints (setup_here who).job who.number
             (map L.Rx.state ins.items) (map L.Tx.state outs.items) }
         requires owner { owner.turned ≡ 0 }
         requires unended { beginning.state.ended ≡ 0 }
         ensures law { IfOk result (λ w. (begin : Begin)
-            → IsStateAt (setup_view setup.now) begin beginning
-            → IsWorker (setup_view setup.now) begin w) }
+            → IsStateAt (setup_here who.entry) begin who.entry.number beginning
+            → IsWorker (setup_here who.entry) begin w) }
         ensures ins { IfOk result (λ w. map endpoint_in w.ins ≡ map L.Rx.state ins.items) }
         ensures outs { IfOk result (λ w. map endpoint_out w.outs ≡ map L.Tx.state outs.items) }
         ensures owner { IfOk result (λ w. w.owner ≡ owner) }
     {
-        let Beginning {
-            number,
-            turned,
-            state,
-        } = beginning;
+        let Beginning { turned, state } = beginning;
+        let SetupWorker { setup, number } = who;
         let at = setup.worker_at(number);
         let room_in = Vec::with_capacity(alloc, ins.len())?;
         let spare_ins = Vec::with_capacity(alloc, ins.len())?;
@@ -241,7 +218,7 @@ impl<L: Lanes> Worker<L> {
             alloc,
             number,
             node: at.node,
-            place: at.index,
+            place: at.place,
             journal: Reserved::new(alloc),
             state,
             due,

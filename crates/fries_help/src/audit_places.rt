@@ -99,8 +99,8 @@ fn push_worker(
     match topology.workers.as_slice().get(worker as usize) {
         Some(at) => {
             push_node(job, at.node, out)?;
-            let index = at.index;
-            write!(out, "{between}{index}")
+            let place = at.place;
+            write!(out, "{between}{place}")
         }
         None => Ok(()),
     }

@@ -1,11 +1,12 @@
 // Counts in their places.
-ghost use Rattle.std.specs.Prelude.{◌≡◌, ◌<◌, ◌≤◌, ◌==◌, ◌&&◌, IfOk, length, nat_eq, position};
+ghost use Rattle.std.specs.Prelude.{◌≡◌, ◌≤◌, ◌==◌, ◌&&◌, IfOk, nat_eq, position};
 ghost use Rattle.std.specs.Prelude.{option_copied};
 ghost use Rattle.std.specs.Cmp.Lexicographic.{pointwise};
 ghost use Rattle.jobs.specs.Nodes.{is_count};
 ghost use Rattle.tuple_trace.specs.Spread.{spread_of};
 ghost use Rattle.flow_model.specs.Setup.{setup_view};
-ghost use Rattle.flow_model.specs.Workers.{nth_worker, workers_in};
+ghost use Rattle.flow_model.specs.SetupWorker.{setup_here, who_here};
+ghost use Rattle.flow_model.specs.Workers.{workers_in};
 ghost use Rattle.savepoint.specs.SaveReading.{is_place as is_place_of};
 ghost use Rattle.savepoint.specs.SaveReading.{placed_of as placed_of_spelled};
 ghost use Rattle.savepoint.specs.SaveReading.{stands_behind as stands_behind_of};
@@ -13,7 +14,7 @@ ghost use Rattle.savepoint_file.specs.Steps.{is_before as is_before_of, spelled_
 ghost use Rattle.savepoint_file.specs.Steps.{takes_key as takes_key_of};
 ghost use Rattle.savepoint_file.specs.Views.{spelled_view};
 
-use flow_model::Setup;
+use flow_model::{Setup, SetupWorker};
 use jobs::{NodeDef, TEXT_MAX, is_count};
 use std::alloc::Global;
 use std::marker::Model;
@@ -92,24 +93,27 @@ fn worker_with(setup: &Setup, name: &[u8], place: i64, key: &[u8]) -> Option<u32
         (workers_in (setup_view setup.now).job) }
 {
     for worker in 0..setup.workers() {
-        if takes_key(setup, worker, name, place, key) {
+        let who = SetupWorker {
+            setup,
+            number: worker,
+        };
+        if takes_key(who, name, place, key) {
             return Some(worker);
         }
     }
     None
 }
 
-fn takes_key(setup: &Setup, worker: u32, name: &[u8], place: i64, key: &[u8]) -> bool
-    requires { worker < length (workers_in (setup_view setup.now).job) }
-    ensures { result ≡ takes_key_of (setup_view setup.now).job name.now place key.now
-        (nth_worker (setup_view setup.now).job worker) }
+fn takes_key(who: SetupWorker<'_>, name: &[u8], place: i64, key: &[u8]) -> bool
+    ensures { result ≡ takes_key_of (setup_here who.entry).job name.now place key.now
+        (who_here who.entry) }
 {
-    let at = setup.worker_at(worker);
-    let node = &setup.job.nodes.as_slice()[at.node as usize];
+    let at = who.setup.worker_at(who.number);
+    let node = &who.setup.job.nodes.as_slice()[at.node as usize];
     if !is_node(node, name) {
         return false;
     }
-    is_led(is_place(place, at.index), key, node.workers, at.index)
+    is_led(is_place(place, at.place), key, node.workers, at.place)
 }
 
 // Whether the node counts and has this name.

@@ -17,7 +17,7 @@ use Rattle.flow_model.specs.Lanes.{lanes_that, senders}
 use Rattle.flow_model.specs.declared.topology.Lane.{Lane}
 use Rattle.flow_model.proofs.ElementLemmas.{IsIn, all_of_at, in_of_place}
 use Rattle.flow_model.proofs.LaneLemmas.{in_lanes_that, lane_is, sender_source}
-use Rattle.flow_worker.proofs.Pairs.{get_mapped}
+use Rattle.sink_journal.proofs.SmallLemmas.{get_mapped}
 use Rattle.coordinator.specs.Starts.{AreNewOuts}
 use Rattle.flow_model.specs.NewEndpoint.{IsNewEndpoint}
 use Rattle.lane_core.specs.Lane.{EndpointIs}

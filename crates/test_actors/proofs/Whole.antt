@@ -1,6 +1,7 @@
 -- A run that is over, of the workers and the feeder that were made.
 use Rattle.std.proofs.Common.{◌≡◌, ◌∙◌, ℕ, List, false, true, sym, ap, length, map, slice_get}
 use Rattle.std.specs.FinMap.{empty}
+use Rattle.std.proofs.lemmas.List.{length-map}
 use Rattle.sink_journal.specs.declared.journal.Feed.{Feed}
 use Rattle.tuple_trace.specs.declared.row.Row.{Row}
 use Rattle.flow_model.specs.Begin.{Begin, at_first}
@@ -11,7 +12,8 @@ use Rattle.flow_worker.specs.Pairs.{EachOne}
 use Rattle.flow_worker.specs.Turning.{IsDone, SameEndpoints}
 use Rattle.flow_worker.specs.Worker.{IsWorker, WorkerIs}
 use Rattle.flow_model.proofs.PlaceLemmas.{map_place}
-use Rattle.flow_worker.proofs.Pairs.{get_mapped, length_mapped, pairs_keep}
+use Rattle.sink_journal.proofs.SmallLemmas.{get_mapped}
+use Rattle.flow_worker.proofs.Pairs.{pairs_keep}
 use Rattle.coordinator.specs.Feeding.{IsFeeder}
 use Rattle.coordinator.specs.Views.{FeederIs}
 use Rattle.lane_core.specs.Lane.{EndpointIs, end_of}
@@ -35,8 +37,8 @@ pub still_crew : (setup : SetupView) (begin : Begin) (workers later : List Worke
     → IsCrew setup begin later
 still_crew setup begin workers later crew law same = record {
   many =
-      sym (length_mapped (λ (w : WorkerIs). w.number) later)
-      ∙ (ap (λ (l : List ℕ). length l) same ∙ (length_mapped (λ (w : WorkerIs). w.number) workers ∙ crew.many));
+      sym (length-map later (λ (w : WorkerIs). w.number))
+      ∙ (ap (λ (l : List ℕ). length l) same ∙ (length-map workers (λ (w : WorkerIs). w.number) ∙ crew.many));
   number = λ k w g.
       let there = ap (λ (l : List ℕ). slice_get l k) (sym same) ∙ get_mapped (λ (w : WorkerIs). w.number) later k w g in
       let (u, at, e) = map_place (λ (w : WorkerIs). w.number) workers k w.number there in
@@ -48,7 +50,7 @@ pub over : (setup : SetupView) (rows : List Row) (workers later : List WorkerIs)
     → EachOne (IsWorker setup (at_first setup)) later → EachOne IsDone later → map (λ (w : WorkerIs). w.number) later ≡ map (λ (w : WorkerIs). w.number) workers → map lane_ids later ≡ map lane_ids workers
     → IsFeeder false setup (at_first setup) rows f → f.stopped ≡ true → map end_of f.outs ≡ map end_of feeder.outs → feeds ≡ f.feeds → f.outs ≡ left → IsOver setup (at_first setup) rows later feeds left
 over setup rows workers later outs left feeder f feeds crew matched fed laws done number lanes law stopped endpoints feeds_are outs_are = record {
-  starts = length_mapped (λ (post : WorkerOf). empty) (workers_in setup.job);
+  starts = length-map (workers_in setup.job) (λ (post : WorkerOf). empty);
   crew = still_crew setup (at_first setup) workers later crew laws number;
   done = done;
   matched = matched_again workers later outs left lanes (ap (map end_of) (sym outs_are) ∙ (endpoints ∙ ap (map end_of) fed)) matched;

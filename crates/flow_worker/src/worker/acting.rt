@@ -12,7 +12,7 @@ ghost use Rattle.flow_worker.specs.Worker.{IsPlaced, hands};
 
 use crate::Worker;
 use crate::outputs::enqueue_outputs;
-use flow_model::{Setup, WorkerAt};
+use flow_model::{Setup, WorkerAt, WorkerFunc};
 use lane_core::Lanes;
 use marker_align::{Act, Due, MAX_LANES_IN};
 use operators::{most_outputs, outputs_are_few};
@@ -120,14 +120,17 @@ impl<L: Lanes> Worker<L> {
             return Err(NoMemory);
         }
         gate.pass(self.node, self.place, self.met);
-        let at = WorkerAt {
-            node: self.node,
-            index: self.place,
+        let by = WorkerFunc {
+            at: WorkerAt {
+                node: self.node,
+                place: self.place,
+            },
+            func,
         };
         let tuple = self.ins.tuple_at(place);
         let (state, made) = (&mut self.state, &mut self.made);
         if state
-            .process_by(self.alloc, setup, func, at, tuple, made)
+            .process_by(self.alloc, setup, by, tuple, made)
             .is_err()
         {
             return Err(NoMemory);

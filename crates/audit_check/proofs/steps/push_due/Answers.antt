@@ -1,18 +1,11 @@
 use Rattle.std.proofs.Common.{◌≡◌, ◌<◌, ◌≤◌, ◌+◌, ◌-◌, ◌++◌, Some, arith, min, subst}
 use Rattle.std.specs.Prelude.{slice_get}
-use Rattle.jobs.specs.Job.{job_view}
-use Rattle.versions.specs.Kept.{AreInOrder}
-use Rattle.versions.proofs.KeptLemmas.{accepted-order}
 use Rattle.flow_model.specs.Requests.{afters}
 use Rattle.flow_model.specs.Setup.{setup_view}
-use Rattle.flow_model.specs.declared.setup.Setup.{Setup}
+use Rattle.flow_model.proofs.SetupLemmas.{in_order}
 use Rattle.audit_check.specs.Issuing.{issues}
 use Rattle.audit_check.proofs.IssueLemmas.{due_next, due_stops, issues-next, issues-stop}
 use Rattle.audit_check.proofs.steps.push_due.Goals as goal
-
--- the requests of a setup stand in the order of the rows that they wait for
-in_order : (setup : Setup) → AreInOrder 0 (setup_view setup).requests
-in_order setup = accepted-order (job_view setup.job) setup.judged.accepted setup.accepted
 
 pub returns-then-min-row-clause-waits : goal.returns-then-min-row-clause-waits
 returns-then-min-row-clause-waits c =

@@ -23,7 +23,7 @@ pub route-requires : goal.route-requires
 route-requires c =
     let job = (setup_view c.args.who.setup.now).job in
     let at = c.worker_at-at.result in
-    slice_get_within (senders job at.node) at.index (Some c.args.who.number) (worker_sends job
+    slice_get_within (senders job at.node) at.place (Some c.args.who.number) (worker_sends job
     c.args.who.number at c.args.who.there c.worker_at-at.ensures.at)
 
 -- the lane of an output, as its worker puts it

@@ -20,11 +20,11 @@ take_tuple-requires g c = λ t h.
 pub feed-requires-clause-steady : goal.feed-requires-clause-steady
 feed-requires-clause-steady g c = λ o h.
     let setup = setup_view c.args.setup.now in
-    let row = c.in-Some.row.now in
     let law = subst (IsFeeding setup c.requires.law.0 c.requires.law.1 c.args.rows.now) (sym c.self.view_is) c.requires.law.2 in
     let (lane, found, there) = c.place_of-place.ensures in
-    may_feed setup c.requires.law.0 c.args.rows.now law.graph c.self.inside.feeds.items c.self.inside.ended c.place_of-place.result lane o _ c.args.setup.now.job.lawful law.graph_is there
-    (law.outs c.place_of-place.result lane o there h)
+    let place = c.place_of-place.result in
+    may_feed setup.job law.begun.graph place lane o _ c.args.setup.now.job.lawful
+    law.begun.graph_is there (law.lanes.outs place lane o there h).endpoint
     (ap (λ (t : Tuple). t.trace) c.in-Ok.ensures.tuple.0 ∙ c.in-Some.ensures.row.unmoved)
 
 pub returns-in-Err : goal.returns-in-Err

@@ -11,13 +11,13 @@ pub bounds-as_slice-sender : goal.bounds-as_slice-sender
 bounds-as_slice-sender c =
     let job = job_view c.args.job.now in
     row_within (out_edges job) (length job.nodes) c.args.sender.node c.args.self.now.out_edges c.as_slice.result.now (ap (λ (t : Topology). t.out_edges) c.requires.topology) c.as_slice.ensures
-    (sends_within job c.args.sender.node c.args.sender.index c.requires.sender)
+    (sends_within job c.args.sender.node c.args.sender.place c.requires.sender)
 
 pub lane_by-requires-clause-there : goal.lane_by-requires-clause-there
 lane_by-requires-clause-there c =
     let job = job_view c.args.job.now in
     let row = row_at (out_edges job) (length job.nodes) c.args.sender.node c.args.self.now.out_edges c.as_slice.result.now c.index-as_slice-sender.result c.as_slice-outs.result.now (ap (λ (t : Topology). t.out_edges) c.requires.topology) c.as_slice.ensures
-    (sends_within job c.args.sender.node c.args.sender.index c.requires.sender) c.index-as_slice-sender.is c.as_slice-outs.ensures in
+    (sends_within job c.args.sender.node c.args.sender.place c.requires.sender) c.index-as_slice-sender.is c.as_slice-outs.ensures in
     let is = found_out job c.args.sender.node c.args.port c.as_slice-outs.result.now c.in-Some.out.now row c.in-Some.ensures in
     (is.edge, is.edge_is, is.from_is, is.made)
 
@@ -25,7 +25,7 @@ pub returns-in-Some-clause-some : goal.returns-in-Some-clause-some
 returns-in-Some-clause-some c from sends =
     let job = job_view c.args.job.now in
     let row = row_at (out_edges job) (length job.nodes) c.args.sender.node c.args.self.now.out_edges c.as_slice.result.now c.index-as_slice-sender.result c.as_slice-outs.result.now (ap (λ (t : Topology). t.out_edges) c.requires.topology) c.as_slice.ensures
-    (sends_within job c.args.sender.node c.args.sender.index c.requires.sender) c.index-as_slice-sender.is c.as_slice-outs.ensures in
+    (sends_within job c.args.sender.node c.args.sender.place c.requires.sender) c.index-as_slice-sender.is c.as_slice-outs.ensures in
     let is = found_out job c.args.sender.node c.args.port c.as_slice-outs.result.now c.in-Some.out.now row c.in-Some.ensures in
     subst (λ (o : Option (ℕ × Edge)). IsNumberOf job (lane_along job from o c.args.tuple.now) c.lane_by.result) (sym is.first) (c.lane_by.ensures from sends is.edge is.edge_is)
 
@@ -33,5 +33,5 @@ pub returns-in-None-clause-none : goal.returns-in-None-clause-none
 returns-in-None-clause-none c from =
     let job = job_view c.args.job.now in
     let row = row_at (out_edges job) (length job.nodes) c.args.sender.node c.args.self.now.out_edges c.as_slice.result.now c.index-as_slice-sender.result c.as_slice-outs.result.now (ap (λ (t : Topology). t.out_edges) c.requires.topology) c.as_slice.ensures
-    (sends_within job c.args.sender.node c.args.sender.index c.requires.sender) c.index-as_slice-sender.is c.as_slice-outs.ensures in
+    (sends_within job c.args.sender.node c.args.sender.place c.requires.sender) c.index-as_slice-sender.is c.as_slice-outs.ensures in
     ap (λ (o : Option (ℕ × Edge)). lane_along job from o c.args.tuple.now) (no_out job c.args.sender.node c.args.port c.as_slice-outs.result.now row c.in-None.ensures)

@@ -42,9 +42,9 @@ route-requires t c =
     let job = job_view c.args.self.now.setup.now.job in
     let w = c.lane-worker.result.receiver in
     let at = c.worker_at-at.result in
-    subst (λ (s : Setup). at.index < length (senders (job_view s.job) at.node))
+    subst (λ (s : Setup). at.place < length (senders (job_view s.job) at.node))
     (sym c.loop-out.invariant.same.setup_is)
-    (slice_get_within (senders job at.node) at.index (Some w)
+    (slice_get_within (senders job at.node) at.place (Some w)
     (worker_sends job w at c.lane-worker.ensures.receiver c.worker_at-at.ensures.at))
 
 pub deliver-requires : goal.deliver-requires

@@ -8,11 +8,12 @@ use Rattle.flow_model.specs.Requests.{afters}
 use Rattle.flow_model.specs.Setup.{setup_view}
 use Rattle.flow_model.specs.declared.setup.Setup.{Setup}
 use Rattle.flow_model.proofs.PlaceLemmas.{map_place}
+use Rattle.flow_model.proofs.SetupLemmas.{in_order}
 use Rattle.flow_replay.specs.inner.Runs.{AllGain, turn_block}
 use Rattle.flow_replay.specs.inner.SoFar.{AreIssued, IsSoFar, issues}
 use Rattle.flow_replay.proofs.IssueLemmas.{due_ends, due_next, due_stops, issues-end, issues-next, issues-stop}
 use Rattle.flow_replay.proofs.RunLemmas.{issue_step}
-use Rattle.flow_replay.proofs.SetupLemmas.{covered, in_order}
+use Rattle.flow_replay.proofs.SetupLemmas.{covered}
 use Rattle.flow_replay.proofs.SortLemmas.{turn_sorted}
 use Rattle.flow_replay.proofs.executor.Executor.issue_up_to.Goals as goal
 

@@ -1,4 +1,5 @@
 use Rattle.std.proofs.Common.{◌≡◌, ◌∙◌, ◌<◌, ◌==◌, ℕ, List, length, map, refl, sym, ap, subst, arith}
+use Rattle.std.proofs.lemmas.List.{length-map}
 use Rattle.std.proofs.lemmas.Simd.{map-map}
 use Rattle.flow_model.specs.Dues.{IsDueAfter, edges_in}
 use Rattle.flow_model.specs.InForce.{func_in}
@@ -14,7 +15,6 @@ use Rattle.flow_worker.specs.Parts.{endpoint_in, endpoint_out}
 use Rattle.lane_core.specs.Lane.{EndpointIs}
 use Rattle.flow_model.specs.NewEndpoint.{IsNewEndpoint}
 use Rattle.flow_worker.proofs.Beginning.{begins_from, lanes_there, new_hands, new_waiting, stands}
-use Rattle.flow_worker.proofs.Pairs.{length_mapped}
 use Rattle.flow_worker.proofs.worker.Worker.begin.Goals as goal
 
 pub new_ins-ins-requires-clause-numbers : goal.new_ins-ins-requires-clause-numbers
@@ -24,8 +24,8 @@ new_ins-ins-requires-clause-numbers g c κs up =
 
 pub new_ins-ins-requires-clause-there : goal.new_ins-ins-requires-clause-there
 new_ins-ins-requires-clause-there g c κs up =
-    let job = (setup_view c.args.setup.now).job in
-    subst (EachOne (λ (n : ℕ). n < length (lanes job))) (sym c.lanes_in.ensures) (lanes_there (λ (lane : Lane). lane.receiver == c.args.beginning.number) job)
+    let job = (setup_view c.args.who.setup.now).job in
+    subst (EachOne (λ (n : ℕ). n < length (lanes job))) (sym c.lanes_in.ensures) (lanes_there (λ (lane : Lane). lane.receiver == c.args.who.number) job)
 
 pub new_outs-outs-requires-clause-numbers : goal.new_outs-outs-requires-clause-numbers
 new_outs-outs-requires-clause-numbers g c κs up =
@@ -34,19 +34,19 @@ new_outs-outs-requires-clause-numbers g c κs up =
 
 pub new_outs-outs-requires-clause-there : goal.new_outs-outs-requires-clause-there
 new_outs-outs-requires-clause-there g c κs up =
-    let job = (setup_view c.args.setup.now).job in
-    subst (EachOne (λ (n : ℕ). n < length (lanes job))) (sym c.lanes_out.ensures) (lanes_there (λ (lane : Lane). is_sender c.args.beginning.number lane.sender) job)
+    let job = (setup_view c.args.who.setup.now).job in
+    subst (EachOne (λ (n : ℕ). n < length (lanes job))) (sym c.lanes_out.ensures) (lanes_there (λ (lane : Lane). is_sender c.args.who.number lane.sender) job)
 
 pub new-requires-2-clause-few : goal.new-requires-2-clause-few
 new-requires-2-clause-few g c κs up =
-    let job = (setup_view c.args.setup.now).job in
+    let job = (setup_view c.args.who.setup.now).job in
     let F : g.row.L-Rx.Denot → EndpointIs = g.L.Rx.Rx.state in
     let ins = c.new_ins-ins.result.items in
-    let long : length ins ≡ length c.args.ins.items = sym (length_mapped endpoint_in ins) ∙ (ap (λ (xs : List EndpointIs). length xs) c.new_ins-ins.ensures.ends ∙ length_mapped F c.args.ins.items) in
+    let long : length ins ≡ length c.args.ins.items = sym (length-map ins endpoint_in) ∙ (ap (λ (xs : List EndpointIs). length xs) c.new_ins-ins.ensures.ends ∙ length-map c.args.ins.items F) in
     let all = ap (λ (xs : List ℕ). length xs) c.requires.ends.ins_are in
-    let each = length_mapped (λ (end : EndpointIs). end.number) (map F c.args.ins.items) in
-    let ends = length_mapped F c.args.ins.items in
-    let few = few_lanes job c.args.beginning.number (nth_worker job c.args.beginning.number) c.args.setup.now.job.lawful (get-nth_worker job c.args.beginning.number c.requires.there) in
+    let each = length-map (map F c.args.ins.items) (λ (end : EndpointIs). end.number) in
+    let ends = length-map c.args.ins.items F in
+    let few = few_lanes job c.args.who.number (nth_worker job c.args.who.number) c.args.who.setup.now.job.lawful (get-nth_worker job c.args.who.number c.args.who.there) in
     omega (arith, long, all, each, ends, few)
 
 pub new-requires-2-clause-hands : goal.new-requires-2-clause-hands
@@ -54,23 +54,25 @@ new-requires-2-clause-hands g c κs up = c.new_ins-ins.ensures.hands
 
 pub returns-clause-law : goal.returns-clause-law
 returns-clause-law g c begin s =
-    let setup = setup_view c.args.setup.now in
+    let setup = setup_view c.args.who.setup.now in
     let job = setup.job in
-    let who = nth_worker job c.args.beginning.number in
+    let who = nth_worker job c.args.who.number in
     let at = c.worker_at-at.ensures.at in
     let F : g.row.L-Rx.Denot → EndpointIs = g.L.Rx.Rx.state in
     let G : g.row.L-Tx.Denot → EndpointIs = g.L.Tx.Tx.state in
     let ins = c.new_ins-ins.result.items in
     let outs = c.new_outs-outs.result.items in
-    let long_in : length ins ≡ length c.args.ins.items = sym (length_mapped endpoint_in ins) ∙ (ap (λ (xs : List EndpointIs). length xs) c.new_ins-ins.ensures.ends ∙ length_mapped F c.args.ins.items) in
-    let long_out : length outs ≡ length c.args.outs.items = sym (length_mapped endpoint_out outs) ∙ (ap (λ (xs : List EndpointIs). length xs) c.new_outs-outs.ensures.ends ∙ length_mapped G c.args.outs.items) in
+    let long_in : length ins ≡ length c.args.ins.items = sym (length-map ins endpoint_in) ∙ (ap (λ (xs : List EndpointIs). length xs) c.new_ins-ins.ensures.ends ∙ length-map c.args.ins.items F) in
+    let long_out : length outs ≡ length c.args.outs.items = sym (length-map outs endpoint_out) ∙ (ap (λ (xs : List EndpointIs). length xs) c.new_outs-outs.ensures.ends ∙ length-map c.args.outs.items G) in
     let node = ap (λ (at : WorkerAt). at.node) at in
     rw (c.new-2.ensures, c.new-3.ensures) (begins_from setup begin who _
-    (stands setup who _ (map F c.args.ins.items) (map G c.args.outs.items) c.args.setup.now.job.lawful
+    (stands setup who _ (map F c.args.ins.items) (map G c.args.outs.items) c.args.who.setup.now.job.lawful
     (record {
-      who_is = get-nth_worker job c.args.beginning.number c.requires.there;
-      node_is = node;
-      place_is = ap (λ (at : WorkerAt). at.index) at;
+      stands = record {
+        who_is = get-nth_worker job c.args.who.number c.args.who.there;
+        node_is = node;
+        place_is = ap (λ (at : WorkerAt). at.place) at;
+      };
       on_lanes = c.new_ins-ins.ensures.edges;
       outs_on_lanes = c.new_outs-outs.ensures.edges;
       next = refl;
@@ -85,8 +87,8 @@ returns-clause-law g c begin s =
       func = ap (λ (n : ℕ). func_in setup n c.args.beginning.state.func) node ∙ s.func_is;
       counts = refl;
       last = s.last_is;
-      due = subst (λ (n : ℕ). IsDueAfter setup n (edges_in job c.args.beginning.number) begin.turned c.due_after-due.result) (sym node)
-          (subst (λ (r : ℕ). IsDueAfter setup who.node (edges_in job c.args.beginning.number) r c.due_after-due.result) s.turned_is c.due_after-due.ensures);
+      due = subst (λ (n : ℕ). IsDueAfter setup n (edges_in job c.args.who.number) begin.turned c.due_after-due.result) (sym node)
+          (subst (λ (r : ℕ). IsDueAfter setup who.node (edges_in job c.args.who.number) r c.due_after-due.result) s.turned_is c.due_after-due.ensures);
       turned = c.requires.owner;
       closed = refl;
       taken = new_hands job c.requires.ends.graph ins (subst (EachOne (IsNewEndpoint job c.requires.ends.graph)) (sym c.new_ins-ins.ensures.ends) c.requires.ends.new_in) c.new_ins-ins.ensures.hands;

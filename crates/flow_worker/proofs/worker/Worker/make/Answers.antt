@@ -10,11 +10,11 @@ use Rattle.flow_worker.proofs.worker.Worker.make.Goals as goal
 
 pub returns-clause-law : goal.returns-clause-law
 returns-clause-law g c =
-    let setup = setup_view c.args.setup.now in
+    let setup = setup_view c.args.who.setup.now in
     let begin = at_first setup in
-    let begun = first_state setup c.args.number empty c.requires.there refl in
+    let begun = first_state setup c.args.who.number empty c.args.who.there refl in
     let state =
     subst (λ (s : WorkerState).
-    IsStateAt setup begin (record { number = c.args.number; turned = 0; state = s })) (sym c.new-state.ensures)
+    IsStateAt setup begin c.args.who.number (record { turned = 0; state = s })) (sym c.new-state.ensures)
     begun in
     IfOk-weaker c.begin.result _ _ (λ w law. law begin state) c.begin.ensures.law

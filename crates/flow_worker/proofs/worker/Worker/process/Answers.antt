@@ -47,11 +47,11 @@ numbers_kept n (x ∷ xs) (y ∷ ys) p = rw (ap (λ (o : LaneOutIs). o.number) p
 
 sender : (setup : SetupView) (who : WorkerOf) (w : WorkerIs) → IsPlaced setup who w → IsSenderAt setup.job w.node who (lane_numbers_out w.outs)
 sender setup who w p =
-    let n = (worker_with setup.job w.number who p.who_is).0 in
+    let n = (worker_with setup.job w.number who p.stands.who_is).0 in
     record {
-      there = subst (λ m. slice_get (workers_in setup.job) m ≡ Some who) (sym n) p.who_is;
-      node_is = sym p.node_is;
-      numbers_are = p.outs_are ∙ ap (out_numbers setup.job) (sym n);
+      there = subst (λ m. slice_get (workers_in setup.job) m ≡ Some who) (sym n) p.stands.who_is;
+      node_is = sym p.stands.node_is;
+      numbers_are = p.outs.are ∙ ap (out_numbers setup.job) (sym n);
     }
 
 only_memory : (n : ℕ) (xs ys : List LaneOutIs) → EachPair (Reserved n) xs ys → EachPair SameButMemory xs ys
@@ -89,13 +89,13 @@ in_view setup who at state func known is unended =
 
 -- where the worker stands
 stands_at : (setup : SetupView) (who : WorkerOf) (w : WorkerIs) → IsPlaced setup who w →
-    IsWorkerAt setup.job (record { node = w.node; index = w.place }) who
+    IsWorkerAt setup.job (record { node = w.node; place = w.place }) who
 stands_at setup who w p =
-    let n = (worker_with setup.job w.number who p.who_is).0 in
+    let n = (worker_with setup.job w.number who p.stands.who_is).0 in
     record {
-      there = subst (λ m. slice_get (workers_in setup.job) m ≡ Some who) (sym n) p.who_is;
-      at_is = ap {B = WorkerAt} (λ (m : ℕ). record { node = m; index = w.place }) p.node_is
-          ∙ ap {B = WorkerAt} (λ (m : ℕ). record { node = who.node; index = m }) p.place_is;
+      there = subst (λ m. slice_get (workers_in setup.job) m ≡ Some who) (sym n) p.stands.who_is;
+      at_is = ap {B = WorkerAt} (λ (m : ℕ). record { node = m; place = w.place }) p.stands.node_is
+          ∙ ap {B = WorkerAt} (λ (m : ℕ). record { node = who.node; place = m }) p.stands.place_is;
     }
 
 pub returns-then-is_err-clause-err : goal.returns-then-is_err-clause-err
@@ -151,8 +151,8 @@ enqueue_outputs-requires-clause-room g c κs up =
     let o = ok_fact c.process_by.result (sym c.is_err-3.ensures.value ∙ c.if-is_err-3.false) c.process_by.ensures.outs in
     let setup = setup_view c.args.setup.now in
     let who = c.requires.placed.0 in
-    let at : WorkerAt = record { node = c.self.inside.node; index = c.self.inside.place } in
-    let is : IsWorkerAt setup.job at who = subst (λ (w : WorkerIs). IsWorkerAt setup.job (record { node = w.node; index = w.place }) who) (sym c.self.view_is) (stands_at setup who c.args.self.now c.requires.placed.1) in
+    let at : WorkerAt = record { node = c.self.inside.node; place = c.self.inside.place } in
+    let is : IsWorkerAt setup.job at who = subst (λ (w : WorkerIs). IsWorkerAt setup.job (record { node = w.node; place = w.place }) who) (sym c.self.view_is) (stands_at setup who c.args.self.now c.requires.placed.1) in
     let func : Func = c.in-Some.func.now in
     let state = c.self.inside.state in
     let tuple = c.tuple_at-tuple.result.now in
@@ -193,8 +193,8 @@ returns-clause-ok g c who placed =
     let func : Func = c.in-Some.func.now in
     let state : WorkerState = c.self.inside.state in
     let view : StateView = record { func = func; counts = state.counts; last = state.last; ended = 0 } in
-    let spot : WorkerAt = record { node = c.self.inside.node; index = c.self.inside.place } in
-    let stands : IsWorkerAt job spot who = subst (λ (w : WorkerIs). IsWorkerAt job (record { node = w.node; index = w.place }) who) (sym c.self.view_is) (stands_at setup who c.args.self.now placed) in
+    let spot : WorkerAt = record { node = c.self.inside.node; place = c.self.inside.place } in
+    let stands : IsWorkerAt job spot who = subst (λ (w : WorkerIs). IsWorkerAt job (record { node = w.node; place = w.place }) who) (sym c.self.view_is) (stands_at setup who c.args.self.now placed) in
     let func_is = sym c.func_in.ensures ∙ ap option_copied c.in-Some.is in
     let view_is = in_view setup who spot state func (in_force setup spot.node state.func func func_is) stands c.self.invariant.3 in
     let ok = sym c.is_err-3.ensures.value ∙ c.if-is_err-3.false in

@@ -40,7 +40,7 @@ push_markers-requires-clause-edges g c κs up =
     let now = c.reserve-2.new.self in
     let small : EachOne (λ (o : LaneOutIs). o.edge < 128) was =
     subst (λ (w : WorkerIs). EachOne (λ (o : LaneOutIs). o.edge < 128) w.outs) (sym c.self.view_is)
-    (outs_small (setup_view c.args.setup.now) c.requires.placed.1.graph c.args.self.now.node c.args.self.now.outs c.args.setup.now.job.lawful c.requires.placed.1.ends_out) in
+    (outs_small (setup_view c.args.setup.now) c.requires.placed.1.graph c.args.self.now.node c.args.self.now.outs c.args.setup.now.job.lawful c.requires.placed.1.outs.ends) in
     let p : EachPair (Reserved 1) was now = ok_fact c.reserve-2.result (sym c.is_err-2.ensures.value ∙ c.if-is_err-2.false) c.reserve-2.ensures.ok in
     (pairs_each (Reserved 1) (λ (o : LaneOutIs). o.edge < 128) (λ (o : LaneOutIs). o.edge < 128) was now (λ a b r l. subst (λ n. n < 128) (sym (ap (λ (o : LaneOutIs). o.edge) r.0)) l) p small)
 
