@@ -1,6 +1,5 @@
 -- The rows and births of the tuples of a run are in the ranges of their types.
 use Rattle.std.proofs.Common.{◌≡◌, ◌∙◌, ◌≤◌, ℕ, zero, suc, List, [], inl, inr, refl, sym, ap, subst, arith, length, true, false, Bool, cond, ◌==◌, ◌&&◌, nat_le, None, Option, Some, slice_get}
-use Rattle.std.proofs.lemmas.Option.{slice_get_within}
 use Rattle.jobs.specs.Law.{IsLawful}
 use Rattle.jobs.specs.Kinds.{row_at}
 use Rattle.jobs.specs.Nodes.{fan_out, is_free, most_roof}
@@ -22,7 +21,7 @@ use Rattle.versions.specs.Kept.{KeepKinds}
 use Rattle.versions.specs.declared.request.Change.{Change}
 use Rattle.flow_model.specs.declared.topology.Lane.{Lane}
 use Rattle.flow_model.specs.Begin.{Begin, view_at}
-use Rattle.flow_model.specs.Feeding.{fed, fed_puts, fed_tuple, row_numbered}
+use Rattle.flow_model.specs.Feeding.{fed, fed_puts, fed_tuple}
 use Rattle.flow_model.specs.SetupView.{SetupView, Worker}
 use Rattle.flow_model.specs.Replay.{StateView, Put, put_out, puts, visit_at}
 use Rattle.flow_model.specs.Requests.{change_by, func_after, func_with}
@@ -30,7 +29,7 @@ use Rattle.flow_model.specs.Workers.{workers_in}
 use Rattle.flow_model.proofs.ElementLemmas.{IsIn, all_of_at, in_flat_map, in_map, place_of_in}
 use Rattle.flow_model.proofs.JobLemmas.{IsConnected}
 use Rattle.flow_model.proofs.KindLemmas.{AreAlike, IsGiven, alike_given, given_roof, given_then}
-use Rattle.flow_model.proofs.RunLemmas.{in_fed_puts, row_is}
+use Rattle.flow_model.proofs.RunLemmas.{in_fed_puts, row_is, row_numbered-within}
 use Rattle.flow_model.proofs.SendingLemmas.{in_items, puts_come}
 use Rattle.flow_model.proofs.StoryLemmas.{entry_in, put_then, sent-story, story}
 use Rattle.flow_model.proofs.WorkerLemmas.{IsWorker, worker_with}
@@ -45,10 +44,6 @@ IsNarrow rows t = (t.row ≤ rows) × AreNarrow t.birth
 
 -- ---- what the feeder puts
 
-row_within : (rows : List Row) (number : ℕ) (row : Row) → row_numbered rows number ≡ Some row → number ≤ length rows
-row_within rows zero row g = absurd (cc)
-row_within rows (suc place) row g = let lt = slice_get_within rows place row g in omega arith
-
 narrow_fed : (begin : Begin) (setup : SetupView) (rows : List Row) → AreRows rows → (lane : Lane) (t : Tuple) → IsIn (item.Carry t) (fed setup.job rows begin.turned lane (feed_of begin setup rows)) → IsNarrow (length rows) t
 narrow_fed begin setup rows are lane t i =
     let p = in_items lane (fed_puts setup.job rows begin.turned (feed_of begin setup rows)) (item.Carry t) i in
@@ -58,7 +53,7 @@ narrow_fed begin setup rows are lane t i =
     let is : IsRow r.0 r.1 = row_is rows r.0 r.1 are r.3 in
     let number : t.row ≡ r.0 = ap (λ (t : Tuple). t.row) same ∙ is.numbered in
     let born : t.birth ≡ [] = ap (λ (t : Tuple). t.birth) same ∙ is.unborn in
-    let le = row_within rows r.0 r.1 r.3 in
+    let le = row_numbered-within rows r.0 r.1 r.3 in
     (omega arith, subst AreNarrow (sym born) (all_of_at (λ birth. _) [] (λ x j. absurd j)))
 
 -- ---- what a worker sends

@@ -1,12 +1,13 @@
 -- Counts are in the range of their type.
 use Rattle.std.proofs.Common.{◌≡◌, ◌∙◌, ◌<◌, ◌^◌, ℕ, ℤ, pos, negsuc, List, [], ◌∷◌, inl, inr, refl, sym, subst, arith, map, filter, Some, None, Option, Ordering}
-use Rattle.std.proofs.Common.{All, length, slice_get}
+use Rattle.std.proofs.Common.{All, slice_get}
 use Rattle.std.specs.Cmp.Lexicographic.{slice_cmp, nat_list_cmp_total}
 use Rattle.std.specs.FinMap.{empty, entries, entries-insert, from_entries, insert, len-empty, len-entries, put}
 use Rattle.std.specs.FinMap.Entries.{by_order}
 use Rattle.std.specs.Int.Signed.{mag}
 use Rattle.std.specs.Ordering.{nat_cmp}
 use Rattle.std.specs.declared.cmp.Ordering.TheVariants.{Less, Equal, Greater}
+use Rattle.std.proofs.lemmas.List.{nil_from_length}
 use Rattle.jobs.specs.JobView.{JobView}
 use Rattle.jobs.specs.declared.func.Func.{Func}
 use Rattle.keyed_state.specs.Counts.{Counts, carried, clamp, scaled}
@@ -35,13 +36,9 @@ clamp_range : (z : ℤ) → mag (clamp z) < 2 ^ 63
 clamp_range (pos n) = omega arith
 clamp_range (negsuc n) = omega arith
 
-no_items : {A : Type 0} (xs : List A) → length xs ≡ 0 → xs ≡ []
-no_items [] e = refl
-no_items (x ∷ xs) e = absurd (omega (arith, e))
-
 -- no text is counted at first
 pub none_listed : entries (empty {X = ℤ} {R = slice_cmp nat_cmp}) ≡ []
-none_listed = no_items (entries (empty {X = ℤ} {R = slice_cmp nat_cmp})) (sym (len-entries (empty {X = ℤ} {R = slice_cmp nat_cmp})) ∙ len-empty (slice_cmp nat_cmp) ℤ)
+none_listed = nil_from_length (entries (empty {X = ℤ} {R = slice_cmp nat_cmp})) (sym (len-entries (empty {X = ℤ} {R = slice_cmp nat_cmp})) ∙ len-empty (slice_cmp nat_cmp) ℤ)
 
 pub empty_range : EachInRange (entries (empty {X = ℤ} {R = slice_cmp nat_cmp}))
 empty_range = subst EachInRange (sym none_listed) (λ c i. absurd i)

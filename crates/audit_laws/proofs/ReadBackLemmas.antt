@@ -1,10 +1,9 @@
 -- What is written of a run is read again.
-use Rattle.std.proofs.Common.{◌≡◌, ◌∙◌, ◌<◌, ◌≤◌, ◌+◌, ◌++◌, ℕ, ℤ, zero, suc, List, [], ◌∷◌, refl, ap, arith, cond, drop, length, map, take}
+use Rattle.std.proofs.Common.{◌≡◌, ◌∙◌, ◌<◌, ◌+◌, ◌++◌, ℕ, ℤ, zero, suc, List, [], ◌∷◌, refl, ap, arith, drop, length, map, take}
 use Rattle.std.specs.FinMap.{entries}
-use Rattle.std.proofs.lemmas.List.{length-append}
 use Rattle.csv.specs.Machine.{next_record}
 use Rattle.csv.specs.Reading.{default_config, records, records_from, records_next, strip_bom}
-use Rattle.csv.specs.Writing.{default_writer, fields_text, is_blank, row_body}
+use Rattle.csv.specs.Writing.{fields_text, is_blank}
 use Rattle.csv.specs.declared.parser.State.TheVariants as st
 use Rattle.csv.proofs.RoundTrip.{read-write}
 use Rattle.jobs.specs.Nodes.{workers_of}
@@ -13,12 +12,13 @@ use Rattle.jobs.specs.declared.func.NodeDef.{NodeDef}
 use Rattle.keyed_state.specs.Counts.{Counts}
 use Rattle.sink_journal.specs.Audit.{audit, audit_header, audit_records, entry_fields, feed_fields, nodes_records}
 use Rattle.sink_journal.specs.Audit.{refused_fields, state_fields, worker_records, workers_records}
-use Rattle.sink_journal.specs.Records.{record_text, records_text}
+use Rattle.sink_journal.specs.Records.{records_text}
 use Rattle.sink_journal.specs.declared.audit.Noted.{Noted}
 use Rattle.sink_journal.specs.declared.journal.Entry.{Entry}
 use Rattle.sink_journal.specs.declared.journal.Entry.TheVariants as entry
 use Rattle.sink_journal.specs.declared.journal.Feed.{Feed}
 use Rattle.sink_journal.specs.declared.journal.Feed.TheVariants as feed
+use Rattle.sink_journal.proofs.CellLemmas.{as_long}
 use Rattle.flow_model.specs.Run.{Ran}
 use Rattle.audit_laws.specs.Fits.{Fits}
 
@@ -36,15 +36,6 @@ reads_all (suc n) ([] ∷ more) lt h = absurd h
 reads_all (suc n) ((x ∷ xs) ∷ more) lt h =
     ap (records_next (records_from default_config n)) (read-write (x ∷ xs) (records_text more))
     ∙ ap (λ (l : List (List (List ℕ))). (x ∷ xs) ∷ l) (reads_all n more (omega arith) h)
-
-one_byte : (fields : List (List ℕ)) → 1 ≤ length (record_text fields)
-one_byte fields =
-    let blank : List ℕ = cond (is_blank default_writer fields) (34 ∷ 34 ∷ []) [] in
-    omega (arith, length-append (row_body default_writer fields) (blank ++ (10 ∷ [])), length-append blank (10 ∷ []))
-
-as_long : (rows : List (List (List ℕ))) → length rows ≤ length (records_text rows)
-as_long [] = omega arith
-as_long (fields ∷ more) = omega (arith, one_byte fields, as_long more, length-append (record_text fields) (records_text more))
 
 -- ---- the records of an audit
 

@@ -2,7 +2,7 @@
 use Rattle.std.proofs.Common.{◌≡◌, ◌∙◌, ◌<◌, ◌+◌, ◌++◌, ℕ, zero, suc, List, [], ◌∷◌, refl, sym, ap, ap₂, arith}
 use Rattle.std.proofs.Common.{drop, length, map, take, Some, slice_get}
 use Rattle.std.specs.FinMap.{entries}
-use Rattle.std.proofs.lemmas.List.{append_assoc, length-append, length-drop, length-take, map-append, take-append-drop}
+use Rattle.std.proofs.lemmas.List.{append_assoc, length-append, length-drop, length-map, length-take, map-append, take-append-drop}
 use Rattle.jobs.specs.Nodes.{worker_count, workers_of}
 use Rattle.jobs.specs.JobView.{JobView}
 use Rattle.jobs.specs.declared.func.NodeDef.{NodeDef}
@@ -102,10 +102,6 @@ lines_split w (j ∷ a) b (x ∷ s) t e =
 abbrev StandFrom : List Named → ℕ → List Named → Type 0
 StandFrom all w workers = (k : ℕ) → slice_get all (w + k) ≡ slice_get workers k
 
-length-mapped : {A B : Type 0} (f : A → B) (xs : List A) → length (map f xs) ≡ length xs
-length-mapped f [] = refl
-length-mapped f (x ∷ xs) = ap suc (length-mapped f xs)
-
 nodes_lines : (all : List Named) (w : ℕ) (nodes : List NodeDef) (journals : List (List Entry)) (states : List Counts)
     → StandFrom all w (named_workers nodes) → length journals ≡ worker_count nodes → length states ≡ worker_count nodes
     → nodes_records nodes journals states ≡ map (line_fields all) (lines_from w (map trimmed journals) (map entries states))
@@ -126,8 +122,8 @@ nodes_lines all w (def ∷ nodes) journals states from a b =
     let later = nodes_lines all (w + n) nodes back last (λ k.
     let e : w + n + k ≡ w + (n + k) = omega arith in
     ap (slice_get all) e ∙ (from (n + k) ∙ named_later def.name 0 n k (named_workers nodes))) lb ll in
-    let lt : length (map trimmed front) ≡ n = length-mapped trimmed front ∙ lf in
-    let lu : length (map entries first) ≡ n = length-mapped entries first ∙ ls in
+    let lt : length (map trimmed front) ≡ n = length-map front trimmed ∙ lf in
+    let lu : length (map entries first) ≡ n = length-map first entries ∙ ls in
     let halves : lines_from w (map trimmed front ++ map trimmed back) (map entries first ++ map entries last)
     ≡ lines_from w (map trimmed front) (map entries first) ++ lines_from (w + n) (map trimmed back) (map entries last) =
     lines_split w (map trimmed front) (map trimmed back) (map entries first) (map entries last) (lu ∙ sym lt)

@@ -1,19 +1,6 @@
 -- The cells of a record.
-use Rattle.std.proofs.Common.{◌≡◌, ℕ, zero, suc, List, [], ◌∷◌, None, Some, refl, arith, drop, get_or, length}
+use Rattle.std.proofs.Common.{◌≡◌, ℕ, List, [], ◌∷◌, None, Some, refl, drop}
 use Rattle.csv.specs.Records.{field_at}
-
-pub cell_some : (cells : List (List ℕ)) (i : ℕ) (cell : List ℕ) → field_at cells i ≡ Some cell → get_or cells i [] ≡ cell
-unfolding field_at
-cell_some [] i cell at = absurd (cc at)
-cell_some (c ∷ cells) zero cell at = cc at
-cell_some (c ∷ cells) (suc i) cell at = cell_some cells i cell at
-
-pub cell_none : (cells : List (List ℕ)) (i : ℕ) → field_at cells i ≡ None → get_or cells i [] ≡ []
-unfolding field_at
-cell_none [] zero at = refl
-cell_none [] (suc i) at = refl
-cell_none (c ∷ cells) zero at = absurd (cc at)
-cell_none (c ∷ cells) (suc i) at = cell_none cells i at
 
 -- the first cell, as a pattern has it
 pub first_some : (cells : List (List ℕ)) (cell : List ℕ) → field_at cells 0 ≡ Some cell → cells ≡ cell ∷ drop 1 cells
@@ -25,15 +12,3 @@ pub first_none : (cells : List (List ℕ)) → field_at cells 0 ≡ None → cel
 unfolding field_at
 first_none [] at = refl
 first_none (c ∷ cells) at = absurd (cc at)
-
--- a record of six cells
-pub six_cells : (cells : List (List ℕ)) → length cells ≡ 6
-    → cells ≡ get_or cells 0 [] ∷ get_or cells 1 [] ∷ get_or cells 2 [] ∷ get_or cells 3 [] ∷ get_or cells 4 [] ∷ get_or cells 5 [] ∷ []
-six_cells [] n = absurd (omega (arith, n))
-six_cells (a ∷ []) n = absurd (omega (arith, n))
-six_cells (a ∷ b ∷ []) n = absurd (omega (arith, n))
-six_cells (a ∷ b ∷ c ∷ []) n = absurd (omega (arith, n))
-six_cells (a ∷ b ∷ c ∷ d ∷ []) n = absurd (omega (arith, n))
-six_cells (a ∷ b ∷ c ∷ d ∷ e ∷ []) n = absurd (omega (arith, n))
-six_cells (a ∷ b ∷ c ∷ d ∷ e ∷ f ∷ []) n = refl
-six_cells (a ∷ b ∷ c ∷ d ∷ e ∷ f ∷ g ∷ more) n = absurd (omega (arith, n))

@@ -1,10 +1,10 @@
 -- Records that are read have fields, and what is written of such records is read again.
-use Rattle.std.proofs.Common.{◌≡◌, ◌∙◌, ◌<◌, ◌≤◌, ◌+◌, ◌++◌, ◌∷◌, ℕ, zero, suc, List, [], Bool, true, false, Option, None, Some, refl, ap, arith, cond, length, length-append}
+use Rattle.std.proofs.Common.{◌≡◌, ◌∙◌, ◌<◌, ◌+◌, ◌++◌, ◌∷◌, ℕ, zero, suc, List, [], Bool, true, false, Option, None, Some, refl, ap, arith, cond, length, length-append}
 use Rattle.std.specs.Prelude.{All}
 use Rattle.std.proofs.lemmas.List.Elements.{All-cons, All-head, All-nil, All-tail}
 use Rattle.csv.specs.Machine.{Read, ends_at_end, field_after, fields_after, is_end, next_record, step}
 use Rattle.csv.specs.Reading.{default_config, records, records_from, records_next, strip_bom}
-use Rattle.csv.specs.Writing.{default_writer, fields_text, is_blank, row_body}
+use Rattle.csv.specs.Writing.{fields_text, is_blank}
 use Rattle.csv.specs.declared.parser.Action.{Action}
 use Rattle.csv.specs.declared.parser.Action.TheVariants as act
 use Rattle.csv.specs.declared.parser.Config.{Config}
@@ -12,7 +12,8 @@ use Rattle.csv.specs.declared.parser.State.{State}
 use Rattle.csv.specs.declared.parser.State.TheVariants as st
 use Rattle.csv.proofs.RoundTrip.{read-write}
 use Rattle.sink_journal.specs.Audit.{audit_header}
-use Rattle.sink_journal.specs.Records.{record_text, records_text}
+use Rattle.sink_journal.specs.Records.{records_text}
+use Rattle.sink_journal.proofs.CellLemmas.{as_long}
 use Rattle.audit_parts.specs.inner.Fields.{HasField}
 
 -- ---- a record that was read has a field
@@ -70,15 +71,6 @@ reads_all (suc n) ([] ∷ more) lt h = absurd (omega (arith, All-head HasField [
 reads_all (suc n) ((x ∷ xs) ∷ more) lt h =
     ap (records_next (records_from default_config n)) (read-write (x ∷ xs) (records_text more))
     ∙ ap (λ (l : List (List (List ℕ))). (x ∷ xs) ∷ l) (reads_all n more (omega arith) (All-tail HasField (x ∷ xs) more h))
-
-one_byte : (fields : List (List ℕ)) → 1 ≤ length (record_text fields)
-one_byte fields =
-    let blank : List ℕ = cond (is_blank default_writer fields) (34 ∷ 34 ∷ []) [] in
-    omega (arith, length-append (row_body default_writer fields) (blank ++ (10 ∷ [])), length-append blank (10 ∷ []))
-
-as_long : (rows : List (List (List ℕ))) → length rows ≤ length (records_text rows)
-as_long [] = omega arith
-as_long (fields ∷ more) = omega (arith, one_byte fields, as_long more, length-append (record_text fields) (records_text more))
 
 -- no byte order mark stands at the front of an audit
 pub bare : (later : List (List (List ℕ))) → strip_bom (records_text (audit_header ∷ later)) ≡ records_text (audit_header ∷ later)

@@ -2,7 +2,7 @@
 use Rattle.std.proofs.Common.{◌≡◌, ◌∙◌, ◌<◌, ◌≤◌, ◌+◌, ◌-◌, ◌++◌, ℕ, suc, Bool, true, false, cond, List, [], ◌∷◌, refl, sym, ap, ap₂, subst, arith, get_or, length, map, set}
 use Rattle.std.specs.Prelude.{◌==◌, ◌&&◌, ◌||◌, not, nat_lt}
 use Rattle.std.specs.List.{concat, flat_map, range_with_len}
-use Rattle.std.proofs.lemmas.Bool.{eq-eqb, lt-ltb, ne_eqb}
+use Rattle.std.proofs.lemmas.Bool.{and_from, eq-eqb, lt-ltb, ne_eqb}
 use Rattle.std.proofs.lemmas.List.{append_assoc, append-nil, map-append}
 use Rattle.std.proofs.lemmas.List.FromFn.{get_or-map-range_with_len, length-map-range_with_len}
 use Rattle.jobs.specs.JobView.{JobView}
@@ -84,9 +84,6 @@ placed_by workers stop records left x number lists new at e = record {
   lists_are = e;
 }
 
-and_left : (b c : Bool) → b ≡ true → c ≡ true → (b && c) ≡ true
-and_left b c e f = rw (e, f) refl
-
 and_none : (b c : Bool) → c ≡ false → (b && c) ≡ false
 and_none true c e = e
 and_none false c e = refl
@@ -97,7 +94,7 @@ pub placed_skip : (workers : List SpelledWorker) (stop : ℕ) (records left : Li
 placed_skip workers stop records left x number lists at lt is =
     let n = at.number_is in
     let more : 0 < stop - length at.above = omega arith in
-    let out : is_left_out (stop - length at.above) x ≡ true = and_left (nat_lt 0 (stop - length at.above)) (closes x) (lt-ltb 0 (stop - length at.above) more) is in
+    let out : is_left_out (stop - length at.above) x ≡ true = and_from (nat_lt 0 (stop - length at.above)) (closes x) (lt-ltb 0 (stop - length at.above) more) is in
     placed_by workers stop records left x number lists lists at
     (at.lists_are ∙ sym (map_same (place_text workers stop at.above) (place_text workers stop (at.above ++ x ∷ [])) 0 (3 + length workers) (λ k le. left_same workers stop at.above x out k)))
 

@@ -1,6 +1,6 @@
 -- What is put together is read back.
 use Rattle.std.proofs.Common.{◌≡◌, ◌∙◌, ◌<◌, ◌+◌, ◌++◌, ℕ, zero, suc, Bool, true, false, cond, List, [], ◌∷◌, Option, Some, None, refl, sym, ap, subst, arith, length}
-use Rattle.std.specs.Prelude.{◌==◌, ⊤, Err, IfOk, Ok, Result, filter}
+use Rattle.std.specs.Prelude.{◌==◌, ⊤, filter}
 use Rattle.std.specs.List.{concat, flat_map, range_with_len}
 use Rattle.csv.specs.Machine.{Read, ends_at_end, field_after, fields_after, is_end, next_record, step}
 use Rattle.csv.specs.Reading.{default_config, records, records_from, records_next, strip_bom}
@@ -17,7 +17,7 @@ use Rattle.audit_stream.specs.Together.{by_group, group_count, record_group, in_
 use Rattle.audit_stream.specs.Sorting.{closed_from, closes, group_texts, stop_place, workers_spelled}
 use Rattle.audit_stream.proofs.ClosedLemmas.{ends_closed}
 use Rattle.audit_stream.proofs.SortLemmas.{texts_by_group}
-use Rattle.savepoint.proofs.SaveTextLemmas.{as_long}
+use Rattle.sink_journal.proofs.CellLemmas.{as_long}
 use Rattle.audit_parts.proofs.ReadLemmas.{bare}
 
 -- ---- records have fields
@@ -113,10 +113,6 @@ read_back rows h =
     ap (records default_config) (bare rows) ∙ reads_all (length (records_text all) + 1) all (omega (arith, as_long all)) (tt, h)
 
 -- ---- what is put together
-
-pub if_ok : {T E : Type 0} (P Q : T → Type 0) (r : Result T E) → ((t : T) → P t → Q t) → IfOk r P → IfOk r Q
-if_ok P Q (Ok t) f p = f t p
-if_ok P Q (Err e) f p = tt
 
 pub put_back : (job : JobView) (bytes text : List ℕ) (stop : ℕ) (body : List (List (List ℕ))) → csv_records bytes ≡ audit_header ∷ body → stop ≡ stop_place body
     → text ≡ record_text audit_header ++ concat (group_texts (workers_spelled job) (closed_from stop body)) → csv_records text ≡ together job (csv_records bytes)

@@ -1,10 +1,9 @@
 -- The records of a part, group by group.
 use Rattle.std.proofs.Common.{◌≡◌, ◌∙◌, ◌≤◌, ◌+◌, ◌++◌, ℕ, ℤ, zero, suc, true, List, [], ◌∷◌, Some, refl, sym, ap, ap₂, subst, arith, drop, length, map, take}
-use Rattle.std.specs.Prelude.{bytes_eq, decimal, option_map, slice_get}
+use Rattle.std.specs.Prelude.{decimal, option_map, slice_get}
 use Rattle.std.specs.FinMap.{entries}
 use Rattle.std.proofs.lemmas.List.{append_assoc, length-append, length-drop, length-take}
 use Rattle.std.proofs.lemmas.Option.{slice_get-map}
-use Rattle.std.proofs.lemmas.Slice.Eq.{bytes_eq-Decides}
 use Rattle.jobs.specs.JobView.{JobView}
 use Rattle.jobs.specs.Law.{IsLawful}
 use Rattle.jobs.specs.Nodes.{worker_count, workers_of}
@@ -15,6 +14,7 @@ use Rattle.sink_journal.specs.declared.journal.Entry.{Entry}
 use Rattle.sink_journal.specs.declared.journal.Entry.TheVariants as entry
 use Rattle.sink_journal.specs.declared.journal.Feed.{Feed}
 use Rattle.sink_journal.specs.declared.journal.Feed.TheVariants as feed
+use Rattle.sink_journal.proofs.SmallLemmas.{self_text}
 use Rattle.audit_laws.specs.Names.{Named, named_at, named_workers}
 use Rattle.audit_laws.proofs.TextLemmas.{length-named_at}
 use Rattle.audit_stream.specs.Sorting.{is_spelled, number_spelled, spelled, workers_spelled}
@@ -81,9 +81,6 @@ part_joined job part each =
     ∙ ap (λ (l : Section). refused ++ (feeds ++ l)) (nodes_sections job.nodes part.journals part.states each.0 each.1)
 
 -- ---- their groups
-
-self_text : (xs : List ℕ) → bytes_eq xs xs ≡ true
-self_text xs = (bytes_eq-Decides xs xs).1 refl
 
 own_spelled : (node place : List ℕ) → is_spelled node place (node, place) ≡ true
 own_spelled node place = rw (self_text node, self_text place) refl

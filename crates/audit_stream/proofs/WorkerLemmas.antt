@@ -1,8 +1,8 @@
 -- The workers of a job, as records spell them.
 use Rattle.std.proofs.Common.{◌≡◌, ◌∙◌, ◌<◌, ◌≤◌, ◌+◌, ◌++◌, ℕ, zero, suc, Bool, true, false, cond, List, [], ◌∷◌, Option, Some, None, refl, sym, ap, ap₂, arith, get_or, length, map, take, inl, inr}
-use Rattle.std.specs.Prelude.{◌&&◌, bytes_eq, decimal, not, option_map, slice_get}
+use Rattle.std.specs.Prelude.{bytes_eq, decimal, not, option_map, slice_get}
 use Rattle.std.specs.List.{position_or_len}
-use Rattle.std.proofs.lemmas.Bool.{cases_lt, false≢true}
+use Rattle.std.proofs.lemmas.Bool.{and_parts, cases_lt}
 use Rattle.std.proofs.lemmas.List.{append_assoc, flat_map_more, map-append, take_all, take_more}
 use Rattle.std.proofs.lemmas.Option.{same_Some, slice_get-map}
 use Rattle.std.proofs.lemmas.Slice.Eq.{bytes_eq-Decides}
@@ -78,10 +78,6 @@ position_within p (a ∷ xs) = go (p a) (position_within p xs)
     go true le = omega arith
     go false le = omega arith
 
-both_true : (a b : Bool) → (a && b) ≡ true → (a ≡ true) × (b ≡ true)
-both_true true b e = (refl, e)
-both_true false b e = absurd (false≢true e)
-
 not_true : (b : Bool) → (b ≡ true → ⊥) → b ≡ false
 not_true true ne = absurd (ne refl)
 not_true false ne = refl
@@ -89,7 +85,7 @@ not_true false ne = refl
 -- a worker is told by what spells it
 spelled_so : (node place : List ℕ) (worker : SpelledWorker) → is_spelled node place worker ≡ true → worker ≡ (node, place)
 spelled_so node place worker e =
-    let both = both_true (bytes_eq worker.0 node) (bytes_eq worker.1 place) e in
+    let both = and_parts (bytes_eq worker.0 node) (bytes_eq worker.1 place) e in
     ap₂ (λ (a b : List ℕ). (a, b)) ((bytes_eq-Decides worker.0 node).0 both.0) ((bytes_eq-Decides worker.1 place).0 both.1)
 
 -- the one worker that is spelled so is the first

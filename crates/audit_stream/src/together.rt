@@ -104,7 +104,7 @@ fn last_stop(records: &mut TextRecords<'_>, cells: &mut ByteRecord) -> Result<u6
     Err(NoMemory)
 }
 
-#[tactic(auto, using(audit_parts::proofs::CellLemmas::six_cells))]
+#[tactic(auto, using(sink_journal::proofs::CellLemmas::six_cells))]
 fn is_header(cells: &ByteRecord) -> bool
     ensures { IsTrue result ↔ (fields_of cells.now ≡ audit_header) }
 {

@@ -1,7 +1,7 @@
 -- Each step keeps the rule of a box.
 use Rattle.std.proofs.Common.{◌≡◌, ◌≢◌, ℕ, zero, suc, ◌+◌, ◌≤◌, ◌<◌, true, true≢false, List, [], ◌∷◌, ◌++◌, length, set, slice_set, slice_index, sym, refl, ap, ◌∙◌, subst, ⊎_elim, get_or, arith}
 use Rattle.std.specs.Prelude.{All}
-use Rattle.std.proofs.lemmas.List.Elements.{All-nil, All-push}
+use Rattle.std.proofs.lemmas.List.Elements.{All-nil, All-push, All-weaker}
 use mathlib.Core.Option.{some, some-ne-none, some-injective}
 use lib.ListN.{get_elem?}
 use Rattle.atomic_table.specs.Table.{Me, keeps, Allows, Splits, opening}
@@ -9,10 +9,6 @@ use Rattle.atomic_table.proofs.Lists.{at_set, at_snoc}
 use Rattle.control_box.specs.declared.rule.View.{View}
 use Rattle.control_box.specs.Endpoints.{HasShownReady}
 use Rattle.control_box.specs.Rule.{IsBox, LoadedPosted, LoadedTurned, OwnerKnows, PosterKnows, StoredPosted, StoredTurned, fresh, owner_side, poster_side}
-
--- numbers that are at most m are at most a greater n
-All-le-more : (xs : List ℕ) (m n : ℕ) → m ≤ n → All (λ x. x ≤ m) xs → All (λ x. x ≤ n) xs
-All-le-more xs m n more all i d within = let at : get_or xs i d ≤ m = all i d within in omega (arith, at, more)
 
 -- a load that shows k ready is of a turned that has come so far
 ready-reached : (k : ℕ) (loads : List ℕ) (turned : ℕ) → HasShownReady k loads → All (λ load. load ≤ turned) loads → k ≤ turned + 1
@@ -84,7 +80,7 @@ module _ {S : Type 0} where
           posters = each-set (Posters h.poster h.posted h.turned) s.views id w (λ _. record { alone = known.alone; posted_is = known.posted_is; loads = All-push (λ load. load ≤ h.turned) v.loads n known.loads (omega (arith, found)) }) (λ seat u other e. h.posters seat u e);
           owners = each-set (Owners h.owner h.posted h.turned) s.views id w (λ p. let k = h.owners id v at p in record { alone = k.alone; turned_is = k.turned_is; polls = k.polls }) (λ seat u other e. h.owners seat u e);
         },
-        record { seat = refl; rises = All-le-more v.loads h.turned n (omega (arith, found)) known.loads; near = omega (arith, near, last, found) },
+        record { seat = refl; rises = All-weaker (λ x. x ≤ h.turned) (λ x. x ≤ n) (λ x le. omega (arith, found, le)) v.loads known.loads; near = omega (arith, near, last, found) },
       )
 
   pub load_posted : (slots id : ℕ) (me : Me S View) → me.0.may_turn ≡ true → Allows IsBox slots id me 0 (λ n. n) (LoadedPosted me)
@@ -109,7 +105,7 @@ module _ {S : Type 0} where
           posters = each-set (Posters h.poster h.posted h.turned) s.views id w (λ p. let k = h.posters id v at p in record { alone = k.alone; posted_is = k.posted_is; loads = k.loads }) (λ seat u other e. h.posters seat u e);
           owners = each-set (Owners h.owner h.posted h.turned) s.views id w (λ _. record { alone = known.alone; turned_is = known.turned_is; polls = All-push (λ poll. poll ≤ h.posted) v.polls n known.polls (omega (arith, found)) }) (λ seat u other e. h.owners seat u e);
         },
-        record { seat = refl; rises = All-le-more v.polls h.posted n (omega (arith, found)) known.polls; near = omega (arith, near, last, found) },
+        record { seat = refl; rises = All-weaker (λ x. x ≤ h.posted) (λ x. x ≤ n) (λ x le. omega (arith, found, le)) v.polls known.polls; near = omega (arith, near, last, found) },
       )
 
   pub store_posted : (slots id k : ℕ) (me : Me S View) → me.0.may_post ≡ true → me.0.posted < k → HasShownReady k me.0.loads
@@ -119,7 +115,7 @@ module _ {S : Type 0} where
       let known = h.posters id v at may in
       let last : v.posted ≡ h.posted = known.posted_is in
       let w : View = record v { posted = k } in
-      let polled : (u : View) → All (λ poll. poll ≤ h.posted) u.polls → All (λ poll. poll ≤ k) u.polls = λ u all. All-le-more u.polls h.posted k (omega (arith, last, above)) all in (
+      let polled : (u : View) → All (λ poll. poll ≤ h.posted) u.polls → All (λ poll. poll ≤ k) u.polls = λ u. All-weaker (λ x. x ≤ h.posted) (λ x. x ≤ k) (λ x le. omega (arith, last, above, le)) u.polls in (
         w,
         keeps,
         tt,
@@ -144,7 +140,7 @@ module _ {S : Type 0} where
       let last : v.turned ≡ h.turned = known.turned_is in
       let near : h.posted ≤ h.turned + 1 = h.at_most_one_ahead in
       let w : View = record v { turned = k } in
-      let loaded : (u : View) → All (λ load. load ≤ h.turned) u.loads → All (λ load. load ≤ k) u.loads = λ u all. All-le-more u.loads h.turned k (omega (arith, last, next)) all in (
+      let loaded : (u : View) → All (λ load. load ≤ h.turned) u.loads → All (λ load. load ≤ k) u.loads = λ u. All-weaker (λ x. x ≤ h.turned) (λ x. x ≤ k) (λ x le. omega (arith, last, next, le)) u.loads in (
         w,
         keeps,
         tt,

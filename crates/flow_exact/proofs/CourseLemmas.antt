@@ -3,7 +3,7 @@ use Rattle.std.proofs.Common.{◌≡◌, ◌∙◌, ◌≤◌, ℕ, List, [], �
 use Rattle.std.proofs.Common.{subst, sym, take}
 use Rattle.std.specs.Prelude.{Err, IfOk, Ok, Result}
 use Rattle.std.proofs.Math.Seq.{take-length}
-use Rattle.std.proofs.lemmas.List.{length-append, length-map}
+use Rattle.std.proofs.lemmas.List.{length-append}
 use Rattle.std.proofs.lemmas.Result.{IfOk-weaker}
 use Rattle.keyed_state.specs.Counts.{Counts}
 use Rattle.cover_planner.specs.declared.cover.Plan.{Plan}
@@ -28,10 +28,6 @@ use Rattle.flow_exact.specs.declared.course.Course.{Course}
 use Rattle.flow_exact.proofs.ExactLemmas.{exact_begun, exact_request, exact_rows}
 
 -- ---- where a part begins
-
-pub states_first : (setup : SetupView) → length (at_first setup).states
-    ≡ length (workers_in setup.job)
-states_first setup = simp length-map
 
 abbrev begin_as : ℕ → ℕ → List Counts → Begin
 begin_as row turned states = record { row = row; turned = turned; states = states }

@@ -3,7 +3,6 @@ use Rattle.std.proofs.Common.{◌≡◌, ◌∙◌, ◌≤◌, ◌<◌, ◌+◌,
 use Rattle.std.proofs.Common.{arith, drop, length, refl, slice_get, slice_index_or, subst, sym}
 use Rattle.std.proofs.Common.{take}
 use Rattle.std.proofs.Math.Logic.{∥∥₁_map}
-use Rattle.std.proofs.Math.Seq.{take-length}
 use Rattle.std.proofs.lemmas.Option.{slice_get-get_or, slice_get_read}
 use Rattle.cover_planner.specs.declared.cover.Plan.{Plan}
 use Rattle.jobs.specs.Job.{job_view}
@@ -14,16 +13,11 @@ use Rattle.flow_model.specs.Planned.{IsPlanned, extended}
 use Rattle.flow_model.specs.Setup.{setup_view}
 use Rattle.flow_model.specs.SetupView.{SetupView}
 use Rattle.flow_model.specs.declared.setup.Setup.{Setup}
+use Rattle.flow_model.proofs.FreshLemmas.{order_weaker}
 use Rattle.flow_model.proofs.TopologyLemmas.{drop-at, take-next}
 use Rattle.savepoint.specs.Parts.{first_of}
 use Rattle.savepoint.proofs.CutLemmas.{AreAccepted-take, IsPlanned-first_of}
 use Rattle.flow_exact.specs.inner.Course.{with_requests}
-
--- requests in order after a row are in order after an earlier one
-pub in_order_before : (a b : ℕ) (requests : List Request) → a ≤ b → AreInOrder b requests
-    → AreInOrder a requests
-in_order_before a b [] le is = tt
-in_order_before a b (request ∷ later) le is = (omega (arith, le, is.0), is.1)
 
 -- the next request waits for this row or a later one
 pub waits_next : (row i : ℕ) (requests : List Request) (request : Request)
@@ -37,7 +31,7 @@ pub in_order_next : (row new i : ℕ) (requests : List Request) (request : Reque
     → slice_get requests i ≡ Some request → AreInOrder row (drop i requests)
     → new ≤ request.after → AreInOrder new (drop (i + 1) requests)
 in_order_next row new i requests request e is le =
-    in_order_before new request.after (drop (i + 1) requests) le
+    order_weaker new request.after (drop (i + 1) requests) le
     (subst (AreInOrder row) (drop-at requests i request e) is).1
 
 -- the first requests of a setup and the next one are its first requests too
@@ -87,15 +81,6 @@ pub setup_none : (setup : Setup) (requests : List Request) (plans : List Plan)
 setup_none setup requests plans a b =
     ap (λ (l : List Request). with_requests (setup_view setup) l setup.plans) a
     ∙ ap (λ (l : List Plan). with_requests (setup_view setup) [] l) b
-
--- and in the end all
-pub setup_all : (whole : SetupView) → length whole.plans ≡ length whole.requests
-    → first_of whole (length whole.requests) ≡ whole
-setup_all whole e =
-    ap (λ (l : List Request). with_requests whole l (take (length whole.requests) whole.plans))
-    (take-length whole.requests)
-    ∙ ap (λ (l : List Plan). with_requests whole whole.requests l)
-    (ap (λ k. take k whole.plans) (sym e) ∙ take-length whole.plans)
 
 -- a setup whose requests were taken out, and all put to it again, is the setup as it was
 pub setup_again : (whole : SetupView) (emptied begun issued fed : Setup)

@@ -1,27 +1,15 @@
 -- Rows that were read are numbered by their places, and enter by sources.
-use Rattle.std.proofs.Common.{◌≡◌, ◌+◌, ℕ, zero, suc, List, [], ◌∷◌, Option, None, Some, Result, Ok, Err, refl, sym, subst, arith, drop, slice_get}
+use Rattle.std.proofs.Common.{◌≡◌, ◌+◌, ℕ, zero, suc, List, [], ◌∷◌, None, Some, Ok, sym, subst, arith, slice_get}
 use Rattle.csv.specs.Reading.{default_config, records, strip_bom}
 use Rattle.jobs.specs.JobView.{JobView}
 use Rattle.jobs.specs.Nodes.{AreFromSources}
-use Rattle.payments.specs.Reading.{fields_from, first_cell, row_by, record_row, row_with, rows_behind, rows_from, rows_of, source_named}
-use Rattle.payments.specs.declared.read.PFault.{PFault}
-use Rattle.payments.proofs.RowLemmas.{AreFromSources-rows_from, before-ok, if-ok}
+use Rattle.payments.specs.Reading.{first_cell, record_row, rows_behind, rows_from, rows_of, source_named}
+use Rattle.payments.proofs.RowLemmas.{AreFromSources-rows_from, IsRow-row_by, before-ok, if-ok}
 use Rattle.tuple_trace.specs.Rows.{AreRows, IsRow}
 use Rattle.tuple_trace.specs.declared.row.Row.{Row}
-use Rattle.tuple_trace.specs.declared.value.Value.{Value}
-
-with_number : (row source : ℕ) (fields : Result (List Value) PFault) (made : Row) → row_with row source fields ≡ Ok made → IsRow row made
-with_number row source (Err fault) made ok = absurd (cc ok)
-with_number row source (Ok fields) made ok =
-    let same : record { source = source; tuple = record { row = row; birth = []; issued = 0; fields = fields; trace = [] } } ≡ made = cc ok in
-    subst (IsRow row) same (record { numbered = refl; unborn = refl; unissued = refl; unmoved = refl })
-
-by_number : (job : JobView) (row : ℕ) (cells : List (List ℕ)) (source : Option ℕ) (made : Row) → row_by job row cells source ≡ Ok made → IsRow row made
-by_number job row cells None made ok = absurd (cc ok)
-by_number job row cells (Some source) made ok = with_number row source (fields_from row 0 job.columns (drop 1 cells)) made ok
 
 of_number : (job : JobView) (row : ℕ) (cells : List (List ℕ)) (made : Row) → record_row job row cells ≡ Ok made → IsRow row made
-of_number job row cells made ok = by_number job row cells (source_named job (first_cell cells)) made (if-ok _ _ _ made (if-ok _ _ _ made ok))
+of_number job row cells made ok = IsRow-row_by job row cells (source_named job (first_cell cells)) made (if-ok _ _ _ made (if-ok _ _ _ made ok))
 
 -- the first row has its number, and those behind it have theirs
 numbered_rest : (n i : ℕ) (item row : Row) (rest : List Row) → IsRow n item → ((k : ℕ) → slice_get rest k ≡ Some row → IsRow (k + (n + 1)) row) → slice_get (item ∷ rest) i ≡ Some row → IsRow (i + n) row

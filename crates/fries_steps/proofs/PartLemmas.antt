@@ -9,7 +9,6 @@ use Rattle.jobs.specs.Nodes.{AreFromSources, IsSourceOf, worker_count}
 use Rattle.jobs.specs.JobView.{JobView}
 use Rattle.jobs.specs.declared.job.Job.{Job}
 use Rattle.job_file.specs.RequestSizes.{AreFew}
-use Rattle.sink_journal.specs.declared.journal.Feed.{Feed}
 use Rattle.tuple_trace.specs.declared.row.Row.{Row}
 use Rattle.versions.specs.Judged.{judged}
 use Rattle.versions.specs.Kept.{HaveLimits}
@@ -24,9 +23,6 @@ use Rattle.flow_model.specs.SetupView.{SetupView}
 use Rattle.flow_model.specs.declared.record.RunRecord.{RunRecord}
 use Rattle.flow_model.specs.declared.setup.Setup.{Setup}
 use Rattle.flow_model.proofs.WorkerListLemmas.{length-workers_from}
-use Rattle.flow_worker.specs.Parts.{WorkedIs}
-use Rattle.flow_crew.specs.Ended.{record_of as ended}
-use Rattle.flow_engine.specs.Flown.{flown_record}
 use Rattle.savepoint.specs.Parts.{first_of, issued_up_to, start_of}
 use Rattle.savepoint.specs.SaveReading.{CanSave}
 use Rattle.fries_steps.proofs.AcceptedLemmas.{accepted_few, accepted_limits}
@@ -99,13 +95,6 @@ workers_of start setup requests rows ran done run of = record {
   journals = subst (λ (r : RunRecord). length r.journals ≡ worker_count r.setup.job.nodes) (sym of.ran_is) (run.run.one_journal_each ∙ length-workers_from 0 0 ran.setup.job.nodes);
   states = subst (λ (r : RunRecord). length r.states ≡ worker_count r.setup.job.nodes) (sym of.ran_is) (run.run.one_state_each ∙ length-workers_from 0 0 ran.setup.job.nodes);
 }
-
--- the record of what a run on threads left is that of a run from there
-pub since_so : (start : Begin) (setup left : Setup) (rows : List Row) (feeds : List Feed) (crew : List WorkedIs) (ran : RunRecord) → left ≡ setup
-    → IsRunSince start (setup_view setup) rows (ended (setup_view setup) feeds crew) → ran ≡ flown_record left feeds crew → IsRunSince start (setup_view setup) rows (record_view ran)
-since_so start setup left rows feeds crew ran same run is =
-    subst (λ (r : RunRecord). IsRunSince start (setup_view setup) rows (record_view r)) (sym is)
-    (subst (λ (s : Setup). IsRunSince start (setup_view setup) rows (ended (setup_view s) feeds crew)) (sym same) run)
 
 -- a run of this setup from a beginning on is a later part
 pub later_part_of : (start : Begin) (setup left : Setup) (requests : List Request) (rows : List Row) (ran : RunRecord) (done : Done) → ran.setup ≡ left → left ≡ setup

@@ -1,17 +1,13 @@
 -- Each step keeps the rule of a line.
-use Rattle.std.proofs.Common.{◌≡◌, ◌≢◌, ℕ, zero, suc, ◌≤◌, true, true≢false, List, [], ◌∷◌, ◌++◌, length, set, slice_set, slice_index, sym, refl, ap, ◌∙◌, subst, ⊎_elim, get_or, arith}
+use Rattle.std.proofs.Common.{◌≡◌, ◌≢◌, ℕ, zero, suc, ◌≤◌, true, true≢false, List, [], ◌∷◌, ◌++◌, length, set, slice_set, slice_index, sym, refl, ap, ◌∙◌, subst, ⊎_elim, arith}
 use Rattle.std.specs.Prelude.{All}
-use Rattle.std.proofs.lemmas.List.Elements.{All-nil, All-push}
+use Rattle.std.proofs.lemmas.List.Elements.{All-nil, All-push, All-weaker}
 use mathlib.Core.Option.{some, some-ne-none, some-injective}
 use lib.ListN.{get_elem?}
 use Rattle.atomic_table.specs.Table.{Me, keeps, Allows, Joins, Splits, opening}
 use Rattle.atomic_table.proofs.Lists.{at_set, at_snoc}
 use Rattle.live_control.specs.declared.rule.View.{View}
 use Rattle.live_control.specs.Rule.{InboxKnows, IsLine, LoadedReleased, NeverFalls, StoredReleased, TellerKnows, fresh, inbox_side, met, spent, teller_side}
-
--- numbers that are at most m are at most a greater n
-All-le-more : (xs : List ℕ) (m n : ℕ) → m ≤ n → All (λ x. x ≤ m) xs → All (λ x. x ≤ n) xs
-All-le-more xs m n more all i d within = let at : get_or xs i d ≤ m = all i d within in omega (arith, at, more)
 
 -- the first of numbers that are at most n
 All-le-first : (x : ℕ) (xs : List ℕ) (n : ℕ) → All (λ y. y ≤ n) (x ∷ xs) → x ≤ n
@@ -71,7 +67,7 @@ module _ {S : Type 0} where
       let n = slice_index s.words 0 in
       let found : n ≡ h.released = ap (λ ws. slice_index ws 0) h.words_are in
       let known = h.inboxes id v at may in
-      let below : All (λ load. load ≤ n) v.loads = All-le-more v.loads h.released n (omega (arith, found)) known.loads in
+      let below : All (λ load. load ≤ n) v.loads = All-weaker (λ x. x ≤ h.released) (λ x. x ≤ n) (λ x le. omega (arith, found, le)) v.loads known.loads in
       let w : View = record v { loads = v.loads ++ n ∷ [] } in (
         w,
         keeps,
@@ -93,7 +89,7 @@ module _ {S : Type 0} where
       let known = h.tellers id v at may in
       let last : v.told ≡ h.released = known.told_is in
       let w : View = record v { told = k } in
-      let loaded : (u : View) → All (λ load. load ≤ h.released) u.loads → All (λ load. load ≤ k) u.loads = λ u all. All-le-more u.loads h.released k (omega (arith, last, above)) all in (
+      let loaded : (u : View) → All (λ load. load ≤ h.released) u.loads → All (λ load. load ≤ k) u.loads = λ u. All-weaker (λ x. x ≤ h.released) (λ x. x ≤ k) (λ x le. omega (arith, last, above, le)) u.loads in (
         w,
         keeps,
         tt,

@@ -1,10 +1,11 @@
 -- Rows that are read record by record, and where they come from.
-use Rattle.std.proofs.Common.{◌≡◌, ◌+◌, ◌&&◌, ℕ, List, [], ◌∷◌, ◌++◌, Option, None, Some, Bool, true, false, Result, Ok, Err, inl, inr, if◌then◌else◌, refl, sym, ◌∙◌, ap, arith, drop}
+use Rattle.std.proofs.Common.{◌≡◌, ◌+◌, ◌&&◌, ℕ, List, [], ◌∷◌, ◌++◌, Option, None, Some, Bool, true, false, Result, Ok, Err, inl, inr, if◌then◌else◌, refl, sym, subst, ◌∙◌, ap, arith, drop}
 use Rattle.std.proofs.lemmas.Bool.{and_parts}
 use Rattle.std.proofs.lemmas.List.Quantifiers.{position-Some}
 use Rattle.std.proofs.lemmas.List.Elements.{All-cons, All-nil}
 use Rattle.std.proofs.lemmas.Option.{slice_get_cases}
 use Rattle.std.specs.Prelude.{position, slice_get}
+use Rattle.tuple_trace.specs.Rows.{IsRow}
 use Rattle.tuple_trace.specs.declared.row.Row.{Row}
 use Rattle.tuple_trace.specs.declared.value.Value.{Value}
 use Rattle.jobs.specs.Nodes.{AreFromSources, IsSourceOf, is_source}
@@ -55,6 +56,17 @@ IsSourceOf-row_with job row source (Ok fields) made is ok = let same : source �
 IsSourceOf-row_by : (job : JobView) (row : ℕ) (name : List ℕ) (cells : List (List ℕ)) (source : Option ℕ) (made : Row) → source_named job name ≡ source → row_by job row cells source ≡ Ok made → IsSourceOf job made.source
 IsSourceOf-row_by job row name cells None made named ok = absurd (cc ok)
 IsSourceOf-row_by job row name cells (Some source) made named ok = IsSourceOf-row_with job row source (fields_from row 0 job.columns (drop 1 cells)) made (IsSourceOf-named job name source named) ok
+
+-- a row that is read has its number
+IsRow-row_with : (row source : ℕ) (fields : Result (List Value) PFault) (made : Row) → row_with row source fields ≡ Ok made → IsRow row made
+IsRow-row_with row source (Err fault) made ok = absurd (cc ok)
+IsRow-row_with row source (Ok fields) made ok =
+    let same : record { source = source; tuple = record { row = row; birth = []; issued = 0; fields = fields; trace = [] } } ≡ made = cc ok in
+    subst (IsRow row) same (record { numbered = refl; unborn = refl; unissued = refl; unmoved = refl })
+
+pub IsRow-row_by : (job : JobView) (row : ℕ) (cells : List (List ℕ)) (source : Option ℕ) (made : Row) → row_by job row cells source ≡ Ok made → IsRow row made
+IsRow-row_by job row cells None made ok = absurd (cc ok)
+IsRow-row_by job row cells (Some source) made ok = IsRow-row_with row source (fields_from row 0 job.columns (drop 1 cells)) made ok
 
 pub if-ok : {A : Type 0} (b : Bool) (first : Result A PFault) (fault : PFault) (made : A) → (if b then first else Err fault) ≡ Ok made → first ≡ Ok made
 if-ok true first fault made is = is

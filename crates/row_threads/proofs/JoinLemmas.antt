@@ -3,6 +3,7 @@ use Rattle.std.proofs.Common.{◌≡◌, ◌∙◌, ◌+◌, ◌*◌, ◌<◌, �
 use Rattle.std.proofs.Common.{List, [], ◌∷◌, Option, None, Some, Result, Ok, Err, All, refl, sym}
 use Rattle.std.proofs.Common.{is_none, ap, append_assoc, arith, if◌then◌else◌, length, map, nat_eq, slice_get}
 use Rattle.std.proofs.Common.{slice_index_or, subst, true≢false}
+use Rattle.std.proofs.lemmas.Bool.{and_parts}
 use Rattle.std.proofs.Math.Dec.{eqb-suc-zero}
 use Rattle.std.proofs.lemmas.List.{append-nil, length-append}
 use Rattle.std.proofs.lemmas.List.Elements.{All-head, All-tail}
@@ -92,10 +93,6 @@ none-is : (o : Option PFault) → is_none o ≡ true → o ≡ None
 none-is None is = refl
 none-is (Some fault) is = absurd (true≢false (sym is))
 
-both : (a b : Bool) → (a && b) ≡ true → (a ≡ true) × (b ≡ true)
-both true b is = (refl, is)
-both false b is = absurd (true≢false (sym is))
-
 -- a text with rows has a header
 some_records : (job : JobView) (records : List (List (List ℕ))) (rows : List Row)
     → rows_under_header job 0 records ≡ these rows None → 0 < length rows → 0 < length records
@@ -146,13 +143,13 @@ go_on : (job : JobView) (before : List ℕ) (rows : List Row) (cut : List (List 
     ≡ these (rows ++ numbered_from (length rows + 1) (flat_map rows_in reads)) None
 go_on job before rows [] last [] ends is some all are ok = absurd are
 go_on job before rows [] last (read ∷ []) ends is some all are ok =
-    one_more job before rows last read ends is some are.0 (both (is_sound read) true ok).0
+    one_more job before rows last read ends is some are.0 (and_parts (is_sound read) true ok).0
     ∙ ap (λ (l : List Row). these (rows ++ numbered_from (length rows + 1) l) None)
     (sym (append-nil (rows_in read)))
 go_on job before rows [] last (read ∷ next ∷ reads) ends is some all are ok = absurd are.1
 go_on job before rows (share ∷ cut) last [] ends is some all are ok = absurd are
 go_on job before rows (share ∷ cut) last (read ∷ reads) ends is some all are ok =
-    let oks = both (is_sound read) (list_all is_sound reads) ok in
+    let oks = and_parts (is_sound read) (list_all is_sound reads) ok in
     let own = numbered_from (length rows + 1) (rows_in read) in
     let more = rows ++ own in
     let whole = flat_map rows_in reads in
@@ -197,7 +194,7 @@ parts : (job : JobView) (first : List ℕ) (more before : List (List ℕ)) (last
     ≡ these (numbered_from 1 (flat_map rows_in (read ∷ reads))) None
 parts job first more [] last read [] is all found later ok some =
     let same : first ≡ last = cc is in
-    ap (stream_rows job 0) (sym same) ∙ start job first read found (both (is_sound read) true ok).0
+    ap (stream_rows job 0) (sym same) ∙ start job first read found (and_parts (is_sound read) true ok).0
     ∙ ap (λ (l : List Row). these (numbered_from 1 l) None) (sym (append-nil (rows_in read)))
 parts job first more [] last read (next ∷ reads) is all found later ok some =
     let none : more ≡ [] = cc is in
@@ -205,7 +202,7 @@ parts job first more [] last read (next ∷ reads) is all found later ok some =
 parts job first more (share ∷ cut) last read reads is all found later ok some =
     let same : first ≡ share = cc is in
     let rest : more ≡ cut ++ last ∷ [] = cc is in
-    let oks = both (is_sound read) (list_all is_sound reads) ok in
+    let oks = and_parts (is_sound read) (list_all is_sound reads) ok in
     let own = numbered_from 1 (rows_in read) in
     let whole = flat_map rows_in reads in
     let many : length own ≡ length (rows_in read) = length-numbered 1 (rows_in read) in

@@ -1,8 +1,10 @@
 -- The first requests of a setup, and their plans.
-use Rattle.std.proofs.Common.{◌≡◌, ◌∙◌, ◌<◌, ◌≤◌, ◌+◌, ℕ, zero, suc, List, [], ◌∷◌, refl, sym, ap, arith, drop, map, min, take, Some, None, Option, slice_get, Bool, true, false, ◌||◌}
+use Rattle.std.proofs.Common.{◌≡◌, ◌∙◌, ◌<◌, ◌≤◌, ◌+◌, ℕ, zero, suc, List, [], ◌∷◌, refl, sym, ap, arith, drop, length, map, min, take, Some, None, Option, slice_get, Bool, true, false, ◌||◌}
 use Rattle.std.specs.List.{list_any, zip}
+use Rattle.std.proofs.Math.Seq.{take-length}
 use Rattle.std.proofs.lemmas.List.{length-take, take-append-drop}
 use Rattle.std.proofs.lemmas.List.Folds.{list_any-append}
+use Rattle.cover_planner.specs.declared.cover.Plan.{Plan}
 use Rattle.jobs.specs.declared.func.NodeDef.{NodeDef}
 use Rattle.jobs.specs.JobView.{JobView}
 use Rattle.versions.specs.Book.{accepted, first_book}
@@ -52,6 +54,12 @@ plan_first setup m (suc r) le = get_take m r setup.plans (omega arith)
 pub request_first : (setup : SetupView) (m r : ℕ) → r ≤ m → request_at (first_of setup m) r ≡ request_at setup r
 request_first setup m zero le = refl
 request_first setup m (suc r) le = get_take m r setup.requests (omega arith)
+
+-- the first of all requests of a setup are all
+pub all_first : (whole : SetupView) → length whole.plans ≡ length whole.requests → first_of whole (length whole.requests) ≡ whole
+all_first whole each =
+    ap (λ (l : List Request). record whole { requests = l; plans = take (length whole.requests) whole.plans }) (take-length whole.requests)
+    ∙ ap (λ (l : List Plan). record whole { plans = l }) (ap (λ k. take k whole.plans) (sym each) ∙ take-length whole.plans)
 
 any_take : {A : Type 0} (test : A → Bool) (n : ℕ) (xs : List A) → list_any test (take n xs) ≡ true → list_any test xs ≡ true
 any_take test n xs e =

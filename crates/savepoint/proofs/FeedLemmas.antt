@@ -1,6 +1,5 @@
 -- The feeds of both parts are together the feed of the whole run, and feed the same tuples.
 use Rattle.std.proofs.Common.{◌≡◌, ◌∙◌, ◌<◌, ◌≤◌, ◌+◌, ◌-◌, ◌++◌, ◌==◌, ℕ, zero, suc, List, [], ◌∷◌, inl, inr, refl, sym, ap, arith, append_assoc, true, false, Bool, cond, length, min, nat_le, take, Some, None, Option}
-use Rattle.std.proofs.lemmas.Bool.{le-leb}
 use Rattle.std.proofs.lemmas.Bool.Decides.{nat_tests}
 use Rattle.std.proofs.lemmas.List.{append-nil}
 use Rattle.jobs.specs.JobView.{JobView}
@@ -12,7 +11,7 @@ use Rattle.tuple_trace.specs.declared.tuple.Tuple.{Tuple}
 use Rattle.flow_model.specs.Feeding.{fed_put, fed_puts, fed_tuple, feed_after, feed_from, issued_after, issued_at_first, issued_where, row_numbered}
 use Rattle.flow_model.specs.Replay.{Put}
 use Rattle.flow_model.proofs.ElementLemmas.{IsIn, in_cases}
-use Rattle.flow_model.proofs.FreshLemmas.{count_at_first, count_next, count_to}
+use Rattle.flow_model.proofs.FreshLemmas.{count_all, count_at_first, count_next, count_to}
 use Rattle.savepoint.specs.Parts.{unstopped}
 use Rattle.savepoint.proofs.CutLemmas.{get_take}
 
@@ -283,10 +282,6 @@ count_after xs r row rows (suc left) =
     let c : count_to (row + 1) rows xs + issued_in (feed_after xs r (row + 1) rows left) ≡ count_to (row + suc left) rows xs =
     count_after xs r (row + 1) rows left ∙ ap (λ k. count_to k rows xs) e in
     omega arith
-
-pub count_all : (rows : ℕ) (xs : List ℕ) → count_to rows rows xs ≡ length xs
-count_all rows [] = refl
-count_all rows (x ∷ xs) = rw (le-leb (min x rows) rows (omega arith)) (ap suc (count_all rows xs))
 
 -- a whole feed issues every request
 pub feed_issues : (rows : ℕ) (xs : List ℕ) → issued_in (feed_from 0 0 xs rows) ≡ length xs

@@ -4,6 +4,7 @@ use Rattle.std.specs.Prelude.{ℤ}
 use Rattle.std.specs.Cmp.Lexicographic.{nat_list_cmp_total, slice_cmp}
 use Rattle.std.specs.FinMap.{empty, entries, from_entries, get-empty, get-from_entries, len, len-empty, len-entries, nat_cmp-IsAntisymmetric, same_map, slice_cmp-IsAntisymmetric}
 use Rattle.std.specs.Ordering.{nat_cmp}
+use Rattle.std.proofs.lemmas.List.{nil_from_length}
 use Rattle.std.proofs.lemmas.Option.{slice_get-map, slice_get_within}
 use Rattle.jobs.specs.Nodes.{is_count}
 use Rattle.jobs.specs.declared.func.Func.{Func}
@@ -32,12 +33,8 @@ none_made =
     same_map nat_list_cmp_total (slice_cmp-IsAntisymmetric nat_cmp-IsAntisymmetric) (from_entries []) empty
     (λ q. get-from_entries nat_list_cmp_total [] q ∙ sym (get-empty (slice_cmp nat_cmp) q))
 
-no_length : {A : Type 0} (xs : List A) → length xs ≡ 0 → xs ≡ []
-no_length [] e = refl
-no_length (x ∷ xs) e = absurd (omega (arith, e))
-
 pub none_there : (counts : Counts) → counts ≡ empty → entries counts ≡ []
-none_there counts e = no_length (entries counts) (sym (len-entries counts) ∙ (ap len e ∙ len-empty (slice_cmp nat_cmp) ℤ))
+none_there counts e = nil_from_length (entries counts) (sym (len-entries counts) ∙ (ap len e ∙ len-empty (slice_cmp nat_cmp) ℤ))
 
 carried_none : (c : Carry) (counts : Counts) → counts ≡ empty → carried c counts ≡ empty
 carried_none carry.Keep counts e = e

@@ -1,7 +1,6 @@
 -- In a run from a beginning on each tuple that is met is of a row that the run fed.
-use Rattle.std.proofs.Common.{◌≡◌, ◌∙◌, ◌<◌, ◌≤◌, ◌+◌, ◌++◌, ℕ, zero, suc, List, [], ◌∷◌, ◌⊎◌, inl}
+use Rattle.std.proofs.Common.{◌≡◌, ◌∙◌, ◌<◌, ◌≤◌, ◌+◌, ◌++◌, ℕ, List, [], ◌∷◌, ◌⊎◌, inl}
 use Rattle.std.proofs.Common.{inr, refl, sym, subst, ap, arith, false, length, Some, None, Option}
-use Rattle.std.proofs.lemmas.Option.{slice_get_within}
 use Rattle.jobs.specs.JobView.{JobView}
 use Rattle.sink_journal.specs.declared.journal.Entry.TheVariants as entry
 use Rattle.sink_journal.specs.declared.journal.Feed.{Feed}
@@ -19,7 +18,7 @@ use Rattle.flow_model.specs.Whole.{meets_row}
 use Rattle.flow_model.proofs.ElementLemmas.{IsIn, in_of_place, place_of_in}
 use Rattle.flow_model.proofs.LineageLemmas.{Passed}
 use Rattle.flow_model.proofs.RootLemmas.{FeedsRise, feed_rises}
-use Rattle.flow_model.proofs.RunLemmas.{HasWorker, row_is}
+use Rattle.flow_model.proofs.RunLemmas.{HasWorker, row_is, row_numbered-within}
 use Rattle.flow_model.proofs.WorkerLemmas.{journal_of}
 use Rattle.flow_begin.proofs.LineageLemmas.{passed}
 use Rattle.flow_begin.proofs.RootLemmas.{Rooted, rooted}
@@ -27,11 +26,6 @@ use Rattle.flow_begin.proofs.RunLemmas.{RunningFrom}
 use Rattle.stream_border.proofs.MeetLemmas.{none_met}
 
 -- ---- what is fed
-
-row_within : (rows : List Row) (n : ℕ) (row : Row) → row_numbered rows n ≡ Some row → n ≤ length rows
-row_within rows zero row e = absurd (cc)
-row_within rows (suc place) row e = let lt : place < length rows =
-    slice_get_within rows place row e in omega arith
 
 -- each put of a rising feed carries a tuple of a row above the bound, and of one that there is
 puts_within : (job : JobView) (rows : List Row) (k issued : ℕ) (feeds : List Feed) (p : Put)
@@ -56,7 +50,8 @@ puts_within job rows k issued (feed.Fed n ∷ more) p t are f h e =
         let number : t.row ≡ n = sym (ap (λ (t : Tuple). t.row) same)
         ∙ (row_is rows n row are g).numbered in
         let lt = f.0 in
-        (omega (arith, number, lt), omega (arith, number, row_within rows n row g))
+        let within = row_numbered-within rows n row g in
+        (omega (arith, number, lt), omega (arith, number, within))
     go (Some row) g (inr i) later = later i
 puts_within job rows k issued (feed.Issued r ∷ more) p t are f h e =
     puts_within job rows k (issued + 1) more p t are f h e

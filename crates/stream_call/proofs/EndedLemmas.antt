@@ -9,7 +9,8 @@ use Rattle.input_pieces.specs.Gathering.{is_over}
 use Rattle.payments.specs.Causes.{Faults}
 use Rattle.payments.specs.Files.{Files}
 use Rattle.payments.specs.World.{ShelfState}
-use Rattle.tuple_trace.specs.FeedRows.{blanks}
+use Rattle.std.proofs.lemmas.List.FromFn.{length-map-range_with_len}
+use Rattle.tuple_trace.specs.FeedRows.{blank, blanks}
 use Rattle.tuple_trace.specs.declared.row.Row.{Row}
 use Rattle.flow_model.specs.Begin.{Begin}
 use Rattle.flow_model.specs.Run.{Ran}
@@ -27,7 +28,7 @@ use Rattle.stream_run.specs.Growing.{Goes, GoesAndStops, IsBooked, Names, parts_
 use Rattle.stream_run.specs.Parts.{HasCome, with_all, with_one}
 use Rattle.stream_run.specs.Standing.{Begins, FileHolds, saved_text}
 use Rattle.stream_run.specs.declared.books.Books.{Books}
-use Rattle.stream_run.proofs.PartLemmas.{First, Later, if_some, length-blanks}
+use Rattle.stream_run.proofs.PartLemmas.{First, Later, if_some}
 use Rattle.stream_parts.specs.End.{IsLastRun}
 use Rattle.stream_turns.specs.Taken.{HasReadText, HasTakenTurn, StreamState, at, job_at}
 use Rattle.stream_turns.specs.Turns.{IsGivenUp}
@@ -81,7 +82,7 @@ run-last later first stream source setup left last None come =
       is.run,
       if_some stream.exact
           (λ base. AreExactAfter base (first_part setup (blanks source stream.start.row) left))
-          (λ base some. is.borders base (inl (length-blanks source stream.start.row ∙ row))),
+          (λ base some. is.borders base (inl (length-map-range_with_len (blank source) 0 stream.start.row ∙ row))),
     )
 run-last later first stream source setup left last (Some so) come =
     let requests = map (lifted stream.start.row) stream.pending in
@@ -90,7 +91,7 @@ run-last later first stream source setup left last (Some so) come =
     let both = later stream so requests fed setup left come last in
     let row : stream.start.row ≡ length so.rows = ap (λ (b : Begin). b.row) come.start_is in
     let none : drop (length so.rows) fed ≡ no_rows =
-    drop_of_length-le fed (omega (arith, row, length-blanks source stream.start.row)) in
+    drop_of_length-le fed (omega (arith, row, length-map-range_with_len (blank source) 0 stream.start.row)) in
     let rows : both.0.rows ≡ so.rows ++ no_rows =
     both.1.is_run.rows_are ∙ ap (λ (r : List Row). so.rows ++ r) none in
     subst (λ (l : Ran). IsRunAnd stream.exact (with_part so
@@ -101,7 +102,7 @@ run-last later first stream source setup left last (Some so) come =
     (record { setup = s; rows = both.0.rows; left = both.0.left }))) both.1.setup_is (
       both.1.one_run,
       if_some stream.exact (λ base. AreExactAfter base (with_part so both.0)) (λ base some.
-          both.1.borders base (inl (length-blanks source stream.start.row ∙ row))
+          both.1.borders base (inl (length-map-range_with_len (blank source) 0 stream.start.row ∙ row))
           (subst (λ o. IfSome o (λ n. AreExactAfter n so)) some come.exact)),
     )))
 

@@ -24,11 +24,6 @@ use Rattle.stream_intake.proofs.MaskLemmas.{mask_of_some, one_mask}
 
 -- ---- answers
 
-pub map_ok : {A E : Type 0} (P Q : A → Type 0) (r : Result A E) → ((a : A) → P a → Q a) → IfOk r P
-    → IfOk r Q
-map_ok P Q (Ok a) f p = f a p
-map_ok P Q (Err e) f p = tt
-
 pub both_ok : {A E : Type 0} (P Q R : A → Type 0) (r : Result A E) → ((a : A) → P a → Q a → R a)
     → IfOk r P → IfOk r Q → IfOk r R
 both_ok P Q R (Ok a) f p q = f a p q

@@ -21,11 +21,12 @@ use Rattle.flow_crew.specs.Ended.{record_of as ended}
 use Rattle.flow_engine.specs.Flown.{flown_record}
 use Rattle.stream_step.specs.Parts.{IsRunOn}
 use Rattle.stream_step.specs.Pending.{lifted}
+use Rattle.flow_engine.proofs.FlownLemmas.{run_since}
 use Rattle.stream_step.specs.declared.stream.Stream.{Stream}
 use Rattle.stream_run.specs.Files.{GrowInTurn}
 use Rattle.stream_run.specs.Growing.{Names}
 use Rattle.stream_run.proofs.PartLemmas.{sources_fed}
-use Rattle.stream_run.proofs.PartRunLemmas.{run_on, run_since}
+use Rattle.stream_run.proofs.PartRunLemmas.{run_on}
 
 -- blank rows are from their source
 pub sources_blank : (job : JobView) (source row : ℕ) → IsSourceOf job source

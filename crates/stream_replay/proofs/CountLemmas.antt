@@ -20,9 +20,8 @@ use Rattle.sink_journal.specs.declared.journal.Feed.{Feed}
 use Rattle.sink_journal.specs.declared.journal.Feed.TheVariants as feed
 use Rattle.flow_model.specs.Feeding.{feed_after, feed_from, issued_after, issued_at_first}
 use Rattle.flow_model.specs.Feeding.{issued_where}
-use Rattle.flow_model.proofs.FreshLemmas.{count_next, count_to}
 use Rattle.audit_parts.specs.Cut.{is_fed_record, is_issued_record, is_refused_record}
-use Rattle.savepoint.proofs.FeedLemmas.{count_all}
+use Rattle.flow_model.proofs.FreshLemmas.{count_all, count_next, count_to}
 
 abbrev Fields : Type 0
 Fields = List (List ℕ)

@@ -1,10 +1,7 @@
 -- A run of a part, as a checker of its text has it.
-use Rattle.std.proofs.Common.{◌≡◌, ◌∙◌, ℕ, List, ◌∷◌, ap, drop, length, subst, sym, take}
-use Rattle.std.proofs.Math.Seq.{take-length}
+use Rattle.std.proofs.Common.{◌≡◌, ◌∙◌, ℕ, List, ◌∷◌, ap, drop, subst, sym, take}
 use Rattle.keyed_state.specs.Counts.{Counts}
-use Rattle.cover_planner.specs.declared.cover.Plan.{Plan}
 use Rattle.tuple_trace.specs.declared.row.Row.{Row}
-use Rattle.versions.specs.declared.request.Request.{Request}
 use Rattle.sink_journal.specs.Audit.{audit_header, audit_records}
 use Rattle.sink_journal.specs.declared.audit.Noted.{Noted}
 use Rattle.flow_model.specs.Run.{IsRunSince, Ran}
@@ -100,14 +97,3 @@ pub starts : (row turned told : ℕ) (states : List Counts) (r t k : ℕ) → ro
 starts row turned told states r t k a b d =
     ap (λ n. start_as n turned states told) a
     ∙ (ap (λ n. start_as r n states told) b ∙ ap (λ n. start_as r t states n) d)
-
--- the first of all requests of a setup are all
-pub all_first : (whole : SetupView) → length whole.plans ≡ length whole.requests
-    → first_of whole (length whole.requests) ≡ whole
-all_first whole each =
-    ap (λ (l : List Request). record whole {
-      requests = l;
-      plans = take (length whole.requests) whole.plans;
-    }) (take-length whole.requests)
-    ∙ ap (λ (l : List Plan). record whole { plans = l })
-    (ap (λ k. take k whole.plans) (sym each) ∙ take-length whole.plans)

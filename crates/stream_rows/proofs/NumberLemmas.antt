@@ -26,7 +26,7 @@ use Rattle.payments.specs.Reading.{first_value, header_of, row_by, row_from, rec
 use Rattle.payments.specs.Reading.{rows_behind, rows_from, source_named, cell_value, work_max}
 use Rattle.payments.specs.Spelling.{amount_of, number_in_text}
 use Rattle.payments.proofs.LimitLemmas.{HaveShortTexts-rows_from}
-use Rattle.payments.proofs.RowLemmas.{AreFromSources-rows_from, before-ok, if-ok}
+use Rattle.payments.proofs.RowLemmas.{AreFromSources-rows_from, IsRow-row_by, before-ok, if-ok}
 use Rattle.std.specs.Cmp.Lexicographic.{pointwise}
 use Rattle.stream_rows.specs.Rows.{followed_by, numbered, only_fault, rows_under_header, sound_rows}
 use Rattle.stream_rows.specs.Rows.{stream_row}
@@ -147,24 +147,6 @@ HasShortTexts-stream_row job row cells made is =
     All-head (λ (r : Row). HasShortTexts r.tuple) (numbered 0 made) []
     (HaveShortTexts-rows_from job 0 (cells ∷ []) (numbered 0 made ∷ [])
     (in_file job row cells made is))
-
-IsRow-row_with : (row source : ℕ) (fields : Result (List Value) PFault) (made : Row)
-    → row_with row source fields ≡ Ok made → IsRow row made
-IsRow-row_with row source (Err fault) made is = absurd (cc is)
-IsRow-row_with row source (Ok fields) made is =
-    let same : row_of_fields row source fields ≡ made = cc is in
-    subst (IsRow row) same (record {
-      numbered = refl;
-      unborn = refl;
-      unissued = refl;
-      unmoved = refl;
-    })
-
-IsRow-row_by : (job : JobView) (row : ℕ) (cells : List (List ℕ)) (source : Option ℕ) (made : Row)
-    → row_by job row cells source ≡ Ok made → IsRow row made
-IsRow-row_by job row cells None made is = absurd (cc is)
-IsRow-row_by job row cells (Some source) made is =
-    IsRow-row_with row source (fields_from row 0 job.columns (drop 1 cells)) made is
 
 IsRow-stream_row : (job : JobView) (row : ℕ) (cells : List (List ℕ)) (made : Row)
     → stream_row job row cells ≡ Ok made → IsRow row made

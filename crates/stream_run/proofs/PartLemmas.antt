@@ -80,12 +80,9 @@ have_run-none a b s t e = record {
 
 -- ---- a part that was run
 
-pub length-blanks : (source k : ℕ) → length (blanks source k) ≡ k
-length-blanks source k = length-map-range_with_len (blank source) 0 k
-
 rows_behind : (source k n : ℕ) (rows : List Row) → n ≡ k → drop n (blanks source k ++ rows) ≡ rows
 rows_behind source k n rows e =
-    subst (λ m. drop m (blanks source k ++ rows) ≡ rows) (length-blanks source k ∙ sym e)
+    subst (λ m. drop m (blanks source k ++ rows) ≡ rows) (length-map-range_with_len (blank source) 0 k ∙ sym e)
     (drop-append_seam (blanks source k) rows)
 
 part_as : (part : RunPart) (s : Setup) (r : List Row) (l : Ran) → part.setup ≡ s → part.rows ≡ r
@@ -114,7 +111,7 @@ pub length-fed : (stream : Stream) (source : ℕ) (rows : List Row)
     → length (blanks source stream.start.row ++ rows) ≡ stream.start.row + length rows
 length-fed stream source rows =
     length-append (blanks source stream.start.row) rows
-    ∙ ap (λ k. k + length rows) (length-blanks source stream.start.row)
+    ∙ ap (λ k. k + length rows) (length-map-range_with_len (blank source) 0 stream.start.row)
 
 -- the later of two lists of requests wait for no later row than this, if both do
 fed_second : (last : ℕ) (xs ys : List Request) → are_fed last (xs ++ ys) ≡ true
@@ -214,7 +211,7 @@ module _ (later : Later) (first : First) (stream next : Stream) (requests : List
             (subst (λ (l : List Request). are_fed (stream.start.row + length rows) l ≡ true)
             requests_are
             (subst (λ k. are_fed k next.setup.judged.accepted ≡ true) row_is next.due)));
-        as_many = length-blanks source stream.start.row;
+        as_many = length-map-range_with_len (blank source) 0 stream.start.row;
         run = on.run;
       }
 

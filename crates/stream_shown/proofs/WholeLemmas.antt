@@ -22,6 +22,7 @@ use Rattle.flow_model.specs.declared.setup.Setup.{Setup}
 use Rattle.flow_model.proofs.PlannedLemmas.{has_covers}
 use Rattle.flow_model.proofs.WaitingLemmas.{length_waiting}
 use Rattle.savepoint.specs.Parts.{first_of}
+use Rattle.savepoint.proofs.CutLemmas.{all_first}
 use Rattle.stream_law.proofs.BeforeLemmas.{run_of_others}
 use Rattle.stream_law.proofs.ExtendedLemmas.{first_extended}
 use Rattle.stream_replay.specs.InParts.{Given, PartStart}
@@ -29,7 +30,6 @@ use Rattle.stream_replay.specs.Runs.{PartEnd, RunInTurn, RunsTo, start_past, sta
 use Rattle.stream_run.specs.Growing.{Ended, rows_in}
 use Rattle.stream_run.specs.Parts.{AreRunInTurn, Front, IsRunAt, Part, front_after}
 use Rattle.stream_shown.specs.Whole.{ended_parts, ended_refused}
-use Rattle.stream_replay.proofs.PartLemmas.{all_first}
 use Rattle.audit_live.proofs.FeedLemmas.{of_those as capped}
 use Rattle.stream_shown.proofs.CapLemmas.{due_capped, first_first, own_waits, take_waits}
 

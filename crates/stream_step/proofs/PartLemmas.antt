@@ -3,7 +3,7 @@ use Rattle.std.proofs.Common.{◌≡◌, ◌∙◌, ◌⊎◌, inl, inr, ◌≤�
 use Rattle.std.proofs.Common.{◌∷◌, All, Option, None, Some, drop, length, take, refl, sym, subst}
 use Rattle.std.proofs.Common.{ap, arith, slice_get}
 use Rattle.std.specs.Prelude.{IfSome}
-use Rattle.std.proofs.lemmas.List.{append-nil, length-append, length-drop, length-map}
+use Rattle.std.proofs.lemmas.List.{append-nil, length-append, length-drop}
 use Rattle.std.proofs.lemmas.List.{length-take-le, nil_from_length, take-append-drop}
 use Rattle.std.proofs.lemmas.List.Elements.{All-append, All-drop}
 use Rattle.cover_planner.specs.declared.cover.Plan.{Plan}
@@ -19,7 +19,6 @@ use Rattle.flow_model.specs.Requests.{afters}
 use Rattle.flow_model.specs.Run.{IsRun, IsRunSince, Ran}
 use Rattle.flow_model.specs.Setup.{setup_view}
 use Rattle.flow_model.specs.SetupView.{SetupView}
-use Rattle.flow_model.specs.Workers.{workers_in}
 use Rattle.flow_model.specs.declared.setup.Setup.{Setup}
 use Rattle.flow_model.proofs.PlannedLemmas.{has_covers}
 use Rattle.savepoint.specs.Parts.{start_of}
@@ -181,10 +180,6 @@ module _ (stream : Stream) (so_far : SoFar) (requests : List Request) (rows : Li
 
 at_same : (a b : SetupView) → a.job ≡ b.job → at_first a ≡ at_first b
 at_same a b e = ap (λ (j : JobView). at_first (record a { job = j })) e
-
-pub states_first : (setup : SetupView) → length (at_first setup).states
-    ≡ length (workers_in setup.job)
-states_first setup = simp length-map
 
 pub first_run : FirstHasBorders
     → (stream : Stream) (requests : List Request) (rows : List Row) (setup : Setup) (left : Ran)

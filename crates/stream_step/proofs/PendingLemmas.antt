@@ -1,11 +1,11 @@
 -- Requests that wait for a later part.
-use Rattle.std.proofs.Common.{◌≡◌, ◌∙◌, ◌⊎◌, inl, inr, if◌then◌else◌, ◌≤◌, ◌<◌, ◌++◌, ◌&&◌}
+use Rattle.std.proofs.Common.{◌≡◌, ◌∙◌, ◌⊎◌, inl, inr, if◌then◌else◌, ◌≤◌, ◌<◌, ◌++◌}
 use Rattle.std.proofs.Common.{◌||◌, ℕ, List, [], ◌∷◌, All, Bool, true, false, filter, length, map}
 use Rattle.std.proofs.Common.{max, nat_le, None, Option, Some, not, refl, sym, subst, ap, arith}
 use Rattle.std.proofs.Common.{append_assoc}
 use Rattle.std.specs.List.{list_all, list_any}
 use Rattle.std.proofs.Math.Nat.{le-max_left, le-max_right, max-eq_left, max-le}
-use Rattle.std.proofs.lemmas.Bool.Decides.{nat_tests}
+use Rattle.std.proofs.lemmas.Bool.{and_parts, and_from, le-leb}
 use Rattle.std.proofs.lemmas.List.{append-nil, map-append}
 use Rattle.std.proofs.lemmas.List.Elements.{All-cons, All-nil}
 use Rattle.jobs.specs.JobView.{JobView}
@@ -19,6 +19,7 @@ use Rattle.versions.specs.declared.request.Request.{Request}
 use Rattle.versions.proofs.YoungLemmas.{not_above}
 use Rattle.flow_model.specs.Planned.{is_made_split, makes_split}
 use Rattle.flow_model.specs.Requests.{afters}
+use Rattle.flow_model.proofs.FreshLemmas.{order_weaker}
 use Rattle.stream_law.specs.Later.{IsJudgedPrefix}
 use Rattle.stream_step.specs.Parts.{IsBetweenRows, due_in}
 use Rattle.stream_step.specs.Pending.{AreAsked, SplitWithin, due_by, is_due_by, is_held, issued_by}
@@ -86,22 +87,11 @@ lifted_wait fed (x ∷ xs) =
 abbrev pub are_fed : ℕ → List Request → Bool
 are_fed fed xs = list_all (λ (request : Request). nat_le request.after fed) xs
 
-and_both : (a b : Bool) → (a && b) ≡ true → (a ≡ true) × (b ≡ true)
-and_both true b e = (refl, e)
-and_both false b e = absurd (cc)
-
-and_of : (a b : Bool) → a ≡ true → b ≡ true → (a && b) ≡ true
-and_of true b e f = f
-and_of false b e f = absurd (cc)
-
-pub of_le : (a b : ℕ) → a ≤ b → nat_le a b ≡ true
-of_le a b e = grind (arith, nat_tests)
-
 pub fed_due : (fed : ℕ) (xs : List Request) → are_fed fed xs ≡ true
     → All (λ after. after ≤ fed) (afters xs)
 fed_due fed [] e = All-nil (λ after. after ≤ fed)
 fed_due fed (x ∷ xs) e =
-    let both = and_both (nat_le x.after fed) (are_fed fed xs) e in
+    let both = and_parts (nat_le x.after fed) (are_fed fed xs) e in
     All-cons (λ after. after ≤ fed) x.after (afters xs) (le_of x.after fed both.0)
     (fed_due fed xs both.1)
 
@@ -109,17 +99,17 @@ pub fed_later : (fed last : ℕ) (xs : List Request) → fed ≤ last → are_fe
     → are_fed last xs ≡ true
 fed_later fed last [] le e = refl
 fed_later fed last (x ∷ xs) le e =
-    let both = and_both (nat_le x.after fed) (are_fed fed xs) e in
+    let both = and_parts (nat_le x.after fed) (are_fed fed xs) e in
     let here : x.after ≤ fed = le_of x.after fed both.0 in
-    and_of (nat_le x.after last) (are_fed last xs) (of_le x.after last (omega arith))
+    and_from (nat_le x.after last) (are_fed last xs) (le-leb x.after last (omega arith))
     (fed_later fed last xs le both.1)
 
 fed_both : (fed : ℕ) (xs ys : List Request) → are_fed fed xs ≡ true → are_fed fed ys ≡ true
     → are_fed fed (xs ++ ys) ≡ true
 fed_both fed [] ys e f = f
 fed_both fed (x ∷ xs) ys e f =
-    let both = and_both (nat_le x.after fed) (are_fed fed xs) e in
-    and_of (nat_le x.after fed) (are_fed fed (xs ++ ys)) both.0 (fed_both fed xs ys both.1 f)
+    let both = and_parts (nat_le x.after fed) (are_fed fed xs) e in
+    and_from (nat_le x.after fed) (are_fed fed (xs ++ ys)) both.0 (fed_both fed xs ys both.1 f)
 
 due_fed : (fed last : ℕ) (xs : List Request) → fed ≤ last
     → are_fed last (map (lifted fed) (due_by last xs)) ≡ true
@@ -130,8 +120,8 @@ due_fed fed last (x ∷ xs) le = go (is_due_by last x) refl (due_fed fed last xs
         → are_fed last (map (lifted fed) (if b then x ∷ due_by last xs else due_by last xs)) ≡ true
     go true e f =
         let here : x.after ≤ last = le_of x.after last e in
-        and_of (nat_le (max x.after fed) last) (are_fed last (map (lifted fed) (due_by last xs)))
-        (of_le (max x.after fed) last (max-le here le)) f
+        and_from (nat_le (max x.after fed) last) (are_fed last (map (lifted fed) (due_by last xs)))
+        (le-leb (max x.after fed) last (max-le here le)) f
     go false e f = f
 
 -- after a part, all its requests wait for no later row than its last
@@ -142,11 +132,6 @@ part_fed fed last taken xs le e =
     (due_fed fed last xs le)
 
 -- ---- their order
-
-pub order_weaker : (low high : ℕ) (xs : List Request) → low ≤ high → AreInOrder high xs
-    → AreInOrder low xs
-order_weaker low high [] le o = tt
-order_weaker low high (x ∷ xs) le o = (let h : high ≤ x.after = o.0 in omega arith, o.1)
 
 pub order_back : (low : ℕ) (xs ys : List Request) → AreInOrder low (xs ++ ys) → AreInOrder low ys
 order_back low [] ys o = o
@@ -165,7 +150,7 @@ pub order_both : (low fed : ℕ) (xs ys : List Request) → low ≤ fed → AreI
     → are_fed fed xs ≡ true → AreInOrder fed ys → AreInOrder low (xs ++ ys)
 order_both low fed [] ys le o e p = order_weaker low fed ys le p
 order_both low fed (x ∷ xs) ys le o e p =
-    let both = and_both (nat_le x.after fed) (are_fed fed xs) e in
+    let both = and_parts (nat_le x.after fed) (are_fed fed xs) e in
     (o.0, order_both x.after fed xs ys (le_of x.after fed both.0) o.1 both.1 p)
 
 -- ---- a list that is parted

@@ -3,7 +3,7 @@ use Rattle.std.proofs.Common.{◌≡◌, ◌∙◌, ◌≤◌, ◌++◌, ℕ, Li
 use Rattle.std.proofs.Common.{nat_le, take, refl, sym, subst, ap, arith}
 use Rattle.std.proofs.Math.Nat.{le-max_right}
 use Rattle.std.proofs.lemmas.List.{length-take-le, take-append-drop}
-use Rattle.std.proofs.lemmas.Bool.{and_from}
+use Rattle.std.proofs.lemmas.Bool.{and_from, le-leb}
 use Rattle.std.specs.List.{list_any}
 use Rattle.jobs.specs.JobView.{JobView}
 use Rattle.versions.specs.Judged.{AreAccepted}
@@ -18,7 +18,7 @@ use Rattle.stream_save.specs.StreamReading.{AreWaits}
 use Rattle.stream_step.specs.Pending.{AreAsked, lifted}
 use Rattle.stream_step.proofs.PendingLemmas.{KeepOrder, MayWait, are_fed, changes_append}
 use Rattle.stream_step.proofs.PendingLemmas.{changes_lifted, or_right, order_back, order_both}
-use Rattle.stream_step.proofs.PendingLemmas.{of_le, order_lifted}
+use Rattle.stream_step.proofs.PendingLemmas.{order_lifted}
 
 -- ---- the rows that they wait for
 
@@ -36,7 +36,7 @@ waits_fed row low [] [] e w = refl
 waits_fed row low [] (x ∷ xs) e w = absurd (cc)
 waits_fed row low (a ∷ waits) [] e w = refl
 waits_fed row low (a ∷ waits) (x ∷ xs) e w =
-    and_from (nat_le a row) (are_fed row (with_afters waits xs)) (of_le a row w.1)
+    and_from (nat_le a row) (are_fed row (with_afters waits xs)) (le-leb a row w.1)
     (waits_fed row a waits xs (omega (arith, e)) w.2)
 
 pub as_many : (n : ℕ) (waits : List ℕ) (xs : List Request) → n ≤ length xs → n ≡ length waits

@@ -1,6 +1,6 @@
 use Rattle.std.proofs.Common.{sym}
 use Rattle.csv.specs.Records.{fields_of}
-use Rattle.audit_parts.proofs.CellLemmas.{cell_none, cell_some}
+use Rattle.sink_journal.proofs.CellLemmas.{cell_none, cell_some}
 use Rattle.audit_parts.proofs.cells.cell.Goals as goal
 
 pub returns-in-Some : goal.returns-in-Some

@@ -1,16 +1,17 @@
 use Rattle.std.proofs.Common.{◌≡◌, ◌∙◌, ◌<◌, ◌≤◌, ◌+◌, Some, ap, drop, length, subst, sym}
+use Rattle.std.proofs.lemmas.Result.{IfOk-weaker}
 use Rattle.jobs.specs.Job.{job_view}
 use Rattle.versions.specs.Judged.{AreAccepted}
 use Rattle.versions.specs.declared.in_order.Judged.{Judged}
 use Rattle.stream_save.specs.declared.fault.StreamSaveFault.TheVariants as fault
 use Rattle.stream_step.specs.Pending.{AreAsked}
-use Rattle.stream_intake.proofs.GoneLemmas.{both_ok, enough_ok, map_err, map_ok, told_alike}
+use Rattle.stream_intake.proofs.GoneLemmas.{both_ok, enough_ok, map_err, told_alike}
 use Rattle.stream_intake.proofs.GoneLemmas.{told_fault, told_mask, told_resumed}
 use Rattle.stream_intake.proofs.resumed.restored.Goals as goal
 
 pub returns-clause-resumed : goal.returns-clause-resumed
 returns-clause-resumed c =
-    map_ok _ _ c.resume.result
+    IfOk-weaker c.resume.result _ _
     (told_resumed c.accepted_requests_split_within.ensures c.args.job c.in_ok-job.field-0.job
     c.in_ok-job.field-0.splits c.args.known.now.requests c.args.mode.ordered c.args.save
     c.in_ok-judged.judged
@@ -19,7 +20,7 @@ returns-clause-resumed c =
 
 pub returns-clause-splits : goal.returns-clause-splits
 returns-clause-splits c =
-    map_ok _ _ c.resume.result
+    IfOk-weaker c.resume.result _ _
     (told_mask c.accepted_requests_split_within.ensures c.args.job c.in_ok-job.field-0.job
     c.in_ok-job.field-0.splits c.args.known.now.requests c.args.mode.ordered c.args.save
     c.in_ok-judged.judged

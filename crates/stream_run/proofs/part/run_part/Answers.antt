@@ -19,7 +19,8 @@ use Rattle.stream_step.specs.Parts.{due_in}
 use Rattle.stream_step.specs.Pending.{SplitWithin, lifted}
 use Rattle.stream_step.specs.declared.stream.Stream.{Stream}
 use Rattle.stream_run.proofs.PartLemmas.{sources_fed}
-use Rattle.stream_run.proofs.PartRunLemmas.{run_on, run_since}
+use Rattle.flow_engine.proofs.FlownLemmas.{run_since}
+use Rattle.stream_run.proofs.PartRunLemmas.{run_on}
 use Rattle.stream_run.proofs.part.run_part.Goals as goal
 
 pub behind-rows-requires-clause-numbered : goal.behind-rows-requires-clause-numbered

@@ -9,9 +9,10 @@ use Rattle.flow_model.specs.Setup.{setup_view}
 use Rattle.flow_model.proofs.PlannedLemmas.{has_covers}
 use Rattle.fries_lines.specs.Lines.{noted}
 use Rattle.savepoint.specs.Parts.{first_of}
+use Rattle.savepoint.proofs.CutLemmas.{all_first}
 use Rattle.stream_replay.specs.declared.whole.Whole.{Whole}
 use Rattle.stream_replay.specs.inner.Progress.{body_of, given_of, start_in, with_all}
-use Rattle.stream_replay.proofs.PartLemmas.{all_first, fits_of_last, last_of_run, run_of_last}
+use Rattle.stream_replay.proofs.PartLemmas.{fits_of_last, last_of_run, run_of_last}
 use Rattle.stream_replay.proofs.progress.Progress.end.Goals as goal
 
 -- the refused requests that are told later, as an audit notes them

@@ -10,8 +10,8 @@ use Rattle.flow_model.specs.Planned.{is_made_split, is_split_node}
 use Rattle.flow_model.specs.Setup.{setup_view}
 use Rattle.flow_model.specs.SetupView.{SetupView}
 use Rattle.flow_model.specs.Workers.{workers_in}
+use Rattle.flow_model.proofs.StartLemmas.{states_first}
 use Rattle.stream_step.specs.Pending.{SplitWithin, lifted}
-use Rattle.stream_step.proofs.PartLemmas.{states_first}
 use Rattle.stream_step.proofs.PendingLemmas.{are_fed, lifted_first, or_right}
 use Rattle.stream_step.proofs.stream.Stream.begin.Goals as goal
 
