@@ -5,6 +5,7 @@ use Rattle.tuple_trace.specs.declared.tuple.Item.{Item}
 use Rattle.lane_core.specs.Steady.{MayFollow}
 use Rattle.lane_ring.specs.declared.rule.Charter.{Charter}
 use Rattle.lane_ring.specs.declared.rule.View.{View}
+use Rattle.lane_ring.specs.declared.rule.TheConstants.{SENT}
 use Rattle.lane_ring.specs.Rule.{word_at, Slots, free_slot, full_slot, sender_slots, receiver_slots, IsRing, StoredSent, TookOne, StoredTaken}
 use Rattle.lane_ring.proofs.RingLemmas.{free_slot-some, none_long, slot-word_at, some_long, some_spare, word_at-next, word_at-same}
 use Rattle.lane_ring.proofs.SenderSteps.{stores_sent}
@@ -48,9 +49,9 @@ pub filled_is : (m m2 : Mine) (x : Item) (size word slot : ℕ) → m.1 ≡ send
 filled_is m m2 x size word slot own more same count at e = e ∙ (λ i. (m.0, (sym (slot_is size m.0.capacity word (length m.0.sent) same count ∙ sym at) i, Some x) ∷ ap rest (sender-slot m own more) i))
 
 pub stores_filled : (k : Charter) (slots id : ℕ) (v : View) (m2 : Mine) (x : Item) (size word new : ℕ) → m2 ≡ (v, (length v.sent % v.capacity, Some x) ∷ []) → v.puts ≡ true → 0 < v.spare → size ≡ v.capacity → word ≡ word_at size (length v.sent)
-    → MayFollow v.origin v.sent x → new ≡ (word + 1) % (2 * size) → Allows (IsRing k) slots id m2 1 (λ _. new) (λ _. StoredSent m2 new)
+    → MayFollow v.origin v.sent x → new ≡ (word + 1) % (2 * size) → Allows (IsRing k) slots id m2 SENT (λ _. new) (λ _. StoredSent m2 new)
 stores_filled k slots id v m2 x size word new e may more same count follows up =
-    let P : Mine → Type 0 = λ m. Allows (IsRing k) slots id m 1 (λ _. new) (λ _. StoredSent m new) in
+    let P : Mine → Type 0 = λ m. Allows (IsRing k) slots id m SENT (λ _. new) (λ _. StoredSent m new) in
     let left = some_spare v.spare more in
     subst P (sym e) (stores_sent k slots id (v, (length v.sent % v.capacity, Some x) ∷ []) x left.0 new may left.1 refl follows (up ∙ word-up size v.capacity word (length v.sent) same count))
 

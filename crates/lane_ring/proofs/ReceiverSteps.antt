@@ -13,17 +13,18 @@ use Rattle.lane_core.specs.Steady.{IsSteady}
 use Rattle.lane_core.proofs.SteadyLemmas.{IsSteady-front}
 use Rattle.lane_ring.specs.declared.rule.Charter.{Charter}
 use Rattle.lane_ring.specs.declared.rule.View.{View}
-use Rattle.lane_ring.specs.Rule.{word_at, Slots, IsRing, LoadedSent, TookOne, StoredTaken}
+use Rattle.lane_ring.specs.declared.rule.TheConstants.{SENT}
+use Rattle.lane_ring.specs.Rule.{word_at, words_of, Slots, IsRing, LoadedSent, TookOne, StoredTaken}
 use Rattle.lane_ring.proofs.RingLemmas.{apart_up, blank, each-set, full_slot-first, head_of, none_long, set-at, set-twice, some_long, tail_of}
 use Rattle.lane_ring.proofs.Seats.{full-at, full-out, lengths, Receivers, Senders, view-set}
 
 module _ (k : Charter) where
-  pub loads_sent : (slots id : ℕ) (me : Me (Option Item) View) → me.0.takes ≡ true → length me.0.ahead ≡ 0 → me.1 ≡ [] → Allows (IsRing k) slots id me 1 (λ n. n) (LoadedSent me)
+  pub loads_sent : (slots id : ℕ) (me : Me (Option Item) View) → me.0.takes ≡ true → length me.0.ahead ≡ 0 → me.1 ≡ [] → Allows (IsRing k) slots id me SENT (λ n. n) (LoadedSent me)
   loads_sent slots id me may no_ahead own s h _ at small =
       let v = me.0 in
       let r = k.capacity in
-      let n = slice_index s.words 1 in
-      let found : n ≡ word_at r (length h.sent) = ap (λ ws. slice_index ws 1) h.words_are in
+      let n = slice_index s.words SENT in
+      let found : n ≡ word_at r (length h.sent) = ap (λ ws. slice_index ws SENT) h.words_are in
       let mine = h.receivers id v at may in
       let size : v.capacity ≡ r = mine.capacity_is in
       let was : v.taken ≡ h.taken = mine.taken_is in
@@ -31,7 +32,7 @@ module _ (k : Charter) where
       let long : length h.sent ≡ length h.taken + length h.later = (let a = lengths k s h in let b : length h.ahead ≡ 0 = ap length empty in omega (arith, a, b)) in
       let within = h.within in
       let pos : 0 < r = h.some_capacity in
-      let same : slice_set s.words 1 n ≡ s.words = ap (λ ws. slice_set ws 1 (slice_index ws 1)) h.words_are ∙ sym h.words_are in
+      let same : slice_set s.words SENT n ≡ s.words = ap (λ ws. slice_set ws SENT (slice_index ws SENT)) h.words_are ∙ sym h.words_are in
       let here : word_at v.capacity (length v.taken) ≡ word_at r (length h.taken) = (λ i. word_at (size i) (length (was i))) in
       dite (ℕ_discrete n (word_at v.capacity (length v.taken)))
       (λ is. let w : View = record v { dry = v.dry + 1 } in
@@ -40,7 +41,7 @@ module _ (k : Charter) where
         w,
         keeps,
         tt,
-        view-set k s h id w (slice_set s.words 1 n) same (λ p. let t = h.senders id v at p in record { alone = t.alone; sent_is = t.sent_is; spare_is = t.spare_is; capacity_is = t.capacity_is; origin_is = t.origin_is })
+        view-set k s h id w (slice_set s.words SENT n) same (λ p. let t = h.senders id v at p in record { alone = t.alone; sent_is = t.sent_is; spare_is = t.spare_is; capacity_is = t.capacity_is; origin_is = t.origin_is })
             (λ _. record { alone = mine.alone; taken_is = was; ahead_is = mine.ahead_is; capacity_is = size; origin_is = mine.origin_is }),
         ((λ _. record { slots = refl; view = refl; all_taken = λ p. (h.senders id v at p).sent_is ∙ h.in_order ∙ (λ i. h.taken ++ (empty i ++ none_later i)) ∙ append-nil h.taken ∙ sym was }), (λ no. absurd (no is))),
       ))
@@ -54,7 +55,7 @@ module _ (k : Charter) where
         w,
         takes j (Some split.0),
         ap (λ (y : ℕ). get_elem? s.homes y) slot ∙ full-at k s h split.0 split.1 empty split.2,
-        full-out k s h id j h.later [] w (slice_set s.words 1 n) empty has (sym (append-nil h.later)) slot same (record { alone = mine.alone; taken_is = was; ahead_is = refl; capacity_is = size; origin_is = mine.origin_is })
+        full-out k s h id j h.later [] w (slice_set s.words SENT n) empty has (sym (append-nil h.later)) slot same (record { alone = mine.alone; taken_is = was; ahead_is = refl; capacity_is = size; origin_is = mine.origin_is })
             (λ p. let t = h.senders id v at p in record { alone = t.alone; sent_is = t.sent_is; spare_is = t.spare_is; capacity_is = t.capacity_is; origin_is = t.origin_is }),
         (
           (λ is. absurd (no is)),
@@ -105,7 +106,7 @@ module _ (k : Charter) where
           in_order = h.in_order ∙ ap (λ l. h.taken ++ (l ++ h.later)) split ∙ sym (append_assoc h.taken (x ∷ []) (more ++ h.later));
           within = omega (arith, longer, within);
           steady = h.steady;
-          words_are = ap (λ ws. slice_set ws 0 new) h.words_are ∙ (λ i. (up ∙ (λ i. word_at (size i) (length (was i) + 1)) ∙ ap (word_at r) (sym longer)) i ∷ word_at r (length h.sent) ∷ []);
+          words_are = ap (λ ws. slice_set ws 0 new) h.words_are ∙ (λ i. words_of ((up ∙ (λ i. word_at (size i) (length (was i) + 1)) ∙ ap (word_at r) (sym longer)) i) (word_at r (length h.sent)));
           slots_are = length-set s.homes j (some blank) ∙ h.slots_are;
           full_slots = λ p le lt other. let more : length h.taken < p = omega (arith, longer, le) in let f = h.full_slots p (omega (arith, more)) lt (λ _ e. omega (arith, e, more)) in (f.0, f.1, set_else s.homes j (p % r) (some blank) (λ e. apart_up r (length h.taken) p more (omega (arith, lt, within)) (e ∙ slot)) ∙ f.2);
           free_slots = λ p le lt other. dite (ℕ_discrete p (length h.taken + r))

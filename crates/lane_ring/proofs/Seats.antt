@@ -10,7 +10,7 @@ use Rattle.tuple_trace.specs.declared.tuple.Item.{Item}
 use Rattle.lane_core.proofs.SteadyLemmas.{IsSteady-nil}
 use Rattle.lane_ring.specs.declared.rule.Charter.{Charter}
 use Rattle.lane_ring.specs.declared.rule.View.{View}
-use Rattle.lane_ring.specs.Rule.{unparted, sending, receiving, joined, spent, SenderKnows, ReceiverKnows, IsRing}
+use Rattle.lane_ring.specs.Rule.{unparted, words_of, sending, receiving, joined, spent, SenderKnows, ReceiverKnows, IsRing}
 use Rattle.lane_ring.proofs.RingLemmas.{apart, apart_up, at_end, at_seam, blank, Each, each-one, each-set, vacant_at}
 
 abbrev pub Senders : Charter → ℕ → List Item → ℕ → ℕ → View → Type 0
@@ -19,7 +19,7 @@ Senders k sender sent spare seat v = v.puts ≡ true → SenderKnows k sender se
 abbrev pub Receivers : Charter → ℕ → List Item → List Item → ℕ → View → Type 0
 Receivers k receiver taken ahead seat v = v.takes ≡ true → ReceiverKnows k receiver taken ahead seat v
 
-pub unparted-IsRing : (k : Charter) → 0 < k.capacity → IsRing k (opening (0 ∷ 0 ∷ []) (replicate k.capacity None) (unparted k))
+pub unparted-IsRing : (k : Charter) → 0 < k.capacity → IsRing k (opening (words_of 0 0) (replicate k.capacity None) (unparted k))
 unparted-IsRing k has = record {
   sender = 0;
   receiver = 0;
@@ -32,7 +32,7 @@ unparted-IsRing k has = record {
   in_order = refl;
   within = omega arith;
   steady = IsSteady-nil k.origin;
-  words_are = λ i. sym (zero-mod (2 * k.capacity)) i ∷ sym (zero-mod (2 * k.capacity)) i ∷ [];
+  words_are = λ i. words_of (sym (zero-mod (2 * k.capacity)) i) (sym (zero-mod (2 * k.capacity)) i);
   slots_are = length-map (replicate k.capacity blank) some ∙ length-replicate k.capacity None;
   full_slots = λ p le lt other. absurd (omega arith);
   free_slots = λ p le lt other. vacant_at k.capacity (p % k.capacity) (mod-lt p has);

@@ -13,7 +13,8 @@ use Rattle.lane_core.specs.Steady.{MayFollow}
 use Rattle.lane_core.proofs.SteadyLemmas.{IsSteady-push}
 use Rattle.lane_ring.specs.declared.rule.Charter.{Charter}
 use Rattle.lane_ring.specs.declared.rule.View.{View}
-use Rattle.lane_ring.specs.Rule.{word_at, Slots, sender_slots, IsRing, LoadedTaken, StoredSent, GaveBack}
+use Rattle.lane_ring.specs.declared.rule.TheConstants.{SENT}
+use Rattle.lane_ring.specs.Rule.{word_at, words_of, Slots, sender_slots, IsRing, LoadedTaken, StoredSent, GaveBack}
 use Rattle.lane_ring.proofs.RingLemmas.{apart, apart_up, blank, each-set, free_slot-some, set-at, set-twice, value_of}
 use Rattle.lane_ring.proofs.Seats.{free-out, lengths, Receivers, Senders, view-set}
 
@@ -72,7 +73,7 @@ module _ (k : Charter) where
         ),
       ))
 
-  pub gives_back : (slots id : ℕ) (me : Me (Option Item) View) → me.0.puts ≡ true → 0 < me.0.spare → me.1 ≡ (length me.0.sent % me.0.capacity, None) ∷ [] → Allows (IsRing k) slots id me 1 (λ n. n) (GaveBack me)
+  pub gives_back : (slots id : ℕ) (me : Me (Option Item) View) → me.0.puts ≡ true → 0 < me.0.spare → me.1 ≡ (length me.0.sent % me.0.capacity, None) ∷ [] → Allows (IsRing k) slots id me SENT (λ n. n) (GaveBack me)
   gives_back slots id me may has own s h _ at small =
       let v = me.0 in
       let r = k.capacity in
@@ -83,14 +84,14 @@ module _ (k : Charter) where
       let within = h.within in
       let busy : 0 < h.spare = (let a = mine.spare_is in omega (arith, a, has)) in
       let pos : 0 < r = h.some_capacity in
-      let n = slice_index s.words 1 in
-      let same : slice_set s.words 1 n ≡ s.words = ap (λ ws. slice_set ws 1 (slice_index ws 1)) h.words_are ∙ sym h.words_are in
+      let n = slice_index s.words SENT in
+      let same : slice_set s.words SENT n ≡ s.words = ap (λ ws. slice_set ws SENT (slice_index ws SENT)) h.words_are ∙ sym h.words_are in
       let j = length v.sent % v.capacity in
       let slot : j ≡ length h.sent % r = (λ i. length (sent i) % size i) in
       let there : j < length s.homes = (let a : length h.sent % r < r = mod-lt (length h.sent) pos in let b = h.slots_are in omega (arith, a, slot, b)) in
       let w : View = record v { spare = 0 } in
       let homes = slice_set s.homes j (some blank) in
-      let P : Slots → Type 0 = λ l. IsRing k record { words = slice_set s.words 1 n; homes = put_back s.homes l; views = slice_set s.views id w } in
+      let P : Slots → Type 0 = λ l. IsRing k record { words = slice_set s.words SENT n; homes = put_back s.homes l; views = slice_set s.views id w } in
       let kept : P ((j, None) ∷ []) = record {
         sender = h.sender;
         receiver = h.receiver;
@@ -119,7 +120,7 @@ module _ (k : Charter) where
   sent-kept : (slots id : ℕ) (me : Me (Option Item) View) (x : Item) (spare new : ℕ) → me.0.puts ≡ true → me.0.spare ≡ suc spare → me.1 ≡ (length me.0.sent % me.0.capacity, Some x) ∷ [] → MayFollow me.0.origin me.0.sent x
       → new ≡ word_at me.0.capacity (length me.0.sent + 1)
       → (s : State (Option Item) View) (h : IsRing k s) → get_elem? s.views id ≡ some me.0
-      → (h' : IsRing k record { words = slice_set s.words 1 new; homes = put_back s.homes me.1; views = set s.views id (record me.0 { sent = me.0.sent ++ x ∷ []; spare = 0 }) }) × (h'.taken ≡ h.taken)
+      → (h' : IsRing k record { words = slice_set s.words SENT new; homes = put_back s.homes me.1; views = set s.views id (record me.0 { sent = me.0.sent ++ x ∷ []; spare = 0 }) }) × (h'.taken ≡ h.taken)
   sent-kept slots id me x spare new may has own follows up s h at =
       let v = me.0 in
       let r = k.capacity in
@@ -138,7 +139,7 @@ module _ (k : Charter) where
       let w : View = record v { sent = v.sent ++ x ∷ []; spare = 0 } in
       let follows' : MayFollow k.origin h.sent x = subst (λ (y : Origin × List Item). MayFollow y.0 y.1 x) (λ i. (mine.origin_is i, was i)) follows in
       let homes = slice_set s.homes j (some (Some x)) in
-      let P : Slots → Type 0 = λ l. (h' : IsRing k record { words = slice_set s.words 1 new; homes = put_back s.homes l; views = set s.views id w }) × (h'.taken ≡ h.taken) in
+      let P : Slots → Type 0 = λ l. (h' : IsRing k record { words = slice_set s.words SENT new; homes = put_back s.homes l; views = set s.views id w }) × (h'.taken ≡ h.taken) in
       let kept : P ((j, Some x) ∷ []) = (
         record {
           sender = h.sender;
@@ -152,7 +153,7 @@ module _ (k : Charter) where
           in_order = ap (λ l. l ++ x ∷ []) h.in_order ∙ append_assoc h.taken (h.ahead ++ h.later) (x ∷ []) ∙ ap (λ l. h.taken ++ l) (append_assoc h.ahead h.later (x ∷ []));
           within = omega (arith, longer, within, busy);
           steady = IsSteady-push k.origin h.sent x h.steady follows';
-          words_are = ap (λ ws. slice_set ws 1 new) h.words_are ∙ (λ i. word_at r (length h.taken) ∷ (up ∙ (λ i. word_at (size i) (length (was i) + 1)) ∙ ap (word_at r) (sym longer)) i ∷ []);
+          words_are = ap (λ ws. slice_set ws SENT new) h.words_are ∙ (λ i. words_of (word_at r (length h.taken)) ((up ∙ (λ i. word_at (size i) (length (was i) + 1)) ∙ ap (word_at r) (sym longer)) i));
           slots_are = length-set s.homes j (some (Some x)) ∙ h.slots_are;
           full_slots = λ p le lt other. dite (ℕ_discrete p (length h.sent))
               (λ is. (x, at_last h.sent x p (sym is), ap (λ (y : ℕ). get_elem? homes y) (ap (λ (y : ℕ). y % r) is ∙ sym slot) ∙ set_here s.homes j (some (Some x)) there))
@@ -167,7 +168,7 @@ module _ (k : Charter) where
       ) in subst P (sym own) kept
 
   pub stores_sent : (slots id : ℕ) (me : Me (Option Item) View) (x : Item) (spare new : ℕ) → me.0.puts ≡ true → me.0.spare ≡ suc spare → me.1 ≡ (length me.0.sent % me.0.capacity, Some x) ∷ [] → MayFollow me.0.origin me.0.sent x
-      → new ≡ word_at me.0.capacity (length me.0.sent + 1) → Allows (IsRing k) slots id me 1 (λ _. new) (λ _. StoredSent me new)
+      → new ≡ word_at me.0.capacity (length me.0.sent + 1) → Allows (IsRing k) slots id me SENT (λ _. new) (λ _. StoredSent me new)
   stores_sent slots id me x zero new may has own follows up s h _ at small =
       let v = me.0 in
       let w : View = record v { sent = v.sent ++ x ∷ []; spare = 0 } in
@@ -188,7 +189,7 @@ module _ (k : Charter) where
       let w : View = record v { sent = v.sent ++ x ∷ []; spare = suc more } in
       let q = sent-kept slots id me x (suc more) new may has own follows up s h at in
       let h' = q.0 in
-      let s' : State (Option Item) View = record { words = slice_set s.words 1 new; homes = put_back s.homes me.1; views = set s.views id w0 } in
+      let s' : State (Option Item) View = record { words = slice_set s.words SENT new; homes = put_back s.homes me.1; views = set s.views id w0 } in
       let mine' = h'.senders id w0 (set-at s.views id v w0 at) may in
       let mine = h.senders id v at may in
       let was : length h.sent ≡ length v.sent = ap length (sym mine.sent_is) in
@@ -200,10 +201,10 @@ module _ (k : Charter) where
       let room : length h'.sent + suc more ≤ length h'.taken + k.capacity = omega (arith, was, longer, spare, taken, within) in
       let j = length (v.sent ++ x ∷ []) % v.capacity in
       let slot : j ≡ length h'.sent % k.capacity = (λ i. length (mine'.sent_is i) % mine'.capacity_is i) in
-      let out : IsRing k record { words = slice_set s.words 1 new; homes = set (put_back s.homes me.1) j none; views = set (set s.views id w0) id w } =
-      free-out k s' h' id j (suc more) w (slice_set s.words 1 new) (omega arith) room slot refl (record { alone = mine'.alone; sent_is = mine'.sent_is; spare_is = refl; capacity_is = mine'.capacity_is; origin_is = mine'.origin_is })
+      let out : IsRing k record { words = slice_set s.words SENT new; homes = set (put_back s.homes me.1) j none; views = set (set s.views id w0) id w } =
+      free-out k s' h' id j (suc more) w (slice_set s.words SENT new) (omega arith) room slot refl (record { alone = mine'.alone; sent_is = mine'.sent_is; spare_is = refl; capacity_is = mine'.capacity_is; origin_is = mine'.origin_is })
       (λ p. let t = h'.receivers id w0 (set-at s.views id v w0 at) p in record { alone = t.alone; taken_is = t.taken_is; ahead_is = t.ahead_is; capacity_is = t.capacity_is; origin_is = t.origin_is }) in
-      let Q : List View → Type 0 = λ vs. IsRing k record { words = slice_set s.words 1 new; homes = set (put_back s.homes me.1) j none; views = vs } in (
+      let Q : List View → Type 0 = λ vs. IsRing k record { words = slice_set s.words SENT new; homes = set (put_back s.homes me.1) j none; views = vs } in (
         w,
         chain gives (takes j None),
         (tt, ap (λ (y : ℕ). get_elem? (put_back s.homes me.1) y) slot ∙ h'.free_slots (length h'.sent) (omega arith) (omega (arith, room)) (λ p. absurd (omega (arith, p, idle)))),

@@ -57,6 +57,10 @@ spent = record {
   ahead = [];
 }
 
+-- the words of a ring: those of the items taken and sent, and fifteen between them that nobody uses
+abbrev pub words_of : ℕ → ℕ → List ℕ
+words_of taken sent = taken ∷ 0 ∷ 0 ∷ 0 ∷ 0 ∷ 0 ∷ 0 ∷ 0 ∷ 0 ∷ 0 ∷ 0 ∷ 0 ∷ 0 ∷ 0 ∷ 0 ∷ 0 ∷ sent ∷ []
+
 -- the lane of a seat of this table
 abbrev pub lane_of : TableId → View → LaneId
 lane_of table v = record { table = table; capacity = v.capacity }
@@ -140,7 +144,7 @@ pub record IsRing (k : Charter) (s : State (Option Item) View) : Type 0 where
   pub within : length sent + spare ≤ length taken + k.capacity
   pub steady : IsSteady k.origin sent
   pub words_are :
-      s.words ≡ word_at k.capacity (length taken) ∷ word_at k.capacity (length sent) ∷ []
+      s.words ≡ words_of (word_at k.capacity (length taken)) (word_at k.capacity (length sent))
   pub slots_are : length s.homes ≡ k.capacity
   -- the slots of the items, but for the one that is out with the receiver
   pub full_slots : (p : ℕ) → length taken ≤ p → p < length sent

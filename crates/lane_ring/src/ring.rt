@@ -4,6 +4,7 @@ ghost use Rattle.std.specs.Arc.{arc_value};
 ghost use Rattle.std.specs.Bool.{OnTrue, OnFalse};
 ghost use Rattle.lane_core.specs.Lane.{WasFull, after_item};
 ghost use Rattle.lane_core.specs.Steady.{IsSteady, MayFollow};
+ghost use Rattle.lane_ring.specs.declared.rule.TheConstants.{WORDS};
 ghost use Rattle.tuple_trace.specs.declared.limits.TheConstants.{MAX_CAPACITY};
 ghost use Rattle.lane_ring.specs.Rule.{HasStalledOnce, receiver_slots, receiving_end, sender_slots};
 ghost use Rattle.lane_ring.specs.Rule.{sending_end, word_at};
@@ -11,7 +12,7 @@ ghost use Rattle.lane_ring.specs.Rule.{sending_end, word_at};
 use crate::places::{next_word, opposite, slot_at};
 use crate::rule::{
     Charter, GivesBack, JoinSeats, LoadsSent, LoadsTaken, SENT, Slots, SplitSeats, StoresSent,
-    StoresTaken, TAKEN, View,
+    StoresTaken, TAKEN, View, WORDS,
 };
 use atomic_table::Seat;
 use lane_core::{Lanes, Left, Origin, Rx, Tx, are_apart};
@@ -30,7 +31,7 @@ pub struct RingTx {
     // The word at which no slot is known to be free.
     limit: u64,
     ghost of_ring: { ((arc_value ring).shared.table_id ≡ seat.table_id)
-        × (seat.table_id.words ≡ 2) },
+        × (seat.table_id.words ≡ WORDS) },
     ghost first: { seat.id ≡ 0 },
     ghost role: { (seat.me.0.puts ≡ true) × (seat.me.1 ≡ sender_slots seat.me.0) },
     ghost sized: { (capacity ≡ seat.me.0.capacity) × (0 < capacity) × (capacity ≤ MAX_CAPACITY) },
@@ -151,7 +152,7 @@ pub struct RingRx {
     // The word at which no item is known to lie.
     end: u64,
     ghost of_ring: { ((arc_value ring).shared.table_id ≡ seat.table_id)
-        × (seat.table_id.words ≡ 2) },
+        × (seat.table_id.words ≡ WORDS) },
     ghost role: { (seat.me.0.takes ≡ true) × (seat.me.1 ≡ receiver_slots seat.me.0) },
     ghost sized: { (capacity ≡ seat.me.0.capacity) × (0 < capacity) × (capacity ≤ MAX_CAPACITY) },
     ghost head_is: { head ≡ word_at capacity (length seat.me.0.taken) },
@@ -317,7 +318,7 @@ impl Lanes for RingLanes {
             capacity: cap,
             origin,
         };
-        let (ring, mut seat) = Slots::vacant(alloc, &[0, 0], cap as usize, &charter)?;
+        let (ring, mut seat) = Slots::vacant(alloc, &[0; WORDS], cap as usize, &charter)?;
         let other = ring.shared.split_seat::<SplitSeats>(&mut seat);
         let ring = Arc::new(alloc, ring)?;
         let again = Arc::try_clone(&ring)?;
