@@ -1,4 +1,5 @@
 pub mod CutLemmas
 pub mod ScanLemmas
 pub mod PieceLemmas
+pub mod PlainLemmas
 pub mod TapLemmas

@@ -1,10 +1,14 @@
 // The machine that reads CSV, as far as it tells where records begin.
 
-ghost use Rattle.std.specs.Prelude.{◌≡◌, if◌then◌else◌};
+ghost use Rattle.std.specs.Prelude.{◌≡◌, ◌<◌, ◌≤◌, if◌then◌else◌, length, take};
 ghost use Rattle.csv.specs.Machine as Spec;
 ghost use Rattle.csv.specs.Reading.{default_config};
+ghost use Rattle.csv.specs.declared.parser.State.TheVariants as state;
+ghost use Rattle.memchr.specs.Find.{Nowhere, Passes, is_byte};
 ghost use Rattle.input_pieces.specs.Cut.{IsLastCut, is_start, state_after};
 ghost use Rattle.input_pieces.specs.Places.{state_of};
+
+use memchr::{memchr, memrchr};
 
 /// Where the machine stands in a record: a state of the machine of `csv`, as it reads by default.
 #[derive(Clone, Copy)]
@@ -123,17 +127,61 @@ impl Scanned {
     }
 }
 
-/// Looks at each of these bytes once, from this place on.
+// How many of the first bytes are whole lines without a quote, unless a quoted field is open. A
+// record may begin behind them, so the machine needn't look at each of them.
+fn plain_lines(from: Place, bytes: &[u8]) -> usize
+    ensures within { result ≤ length bytes.now }
+    ensures start { 0 < result → state_after default_config (state_of from) (take result bytes.now)
+        ≡ state.StartRecord }
+{
+    if let Place::InQuoted = from {
+        return 0;
+    }
+    match memrchr(b'\n', &bytes[..quoteless(bytes)]) {
+        Some(end) => end + 1,
+        None => 0,
+    }
+}
+
+// How many bytes stand before the first quote.
+fn quoteless(bytes: &[u8]) -> usize
+    ensures within { result ≤ length bytes.now }
+    ensures none { Nowhere (Passes (is_byte default_config.quote) bytes.now) 0 result }
+{
+    match memchr(b'"', bytes) {
+        Some(quote) => quote,
+        None => bytes.len(),
+    }
+}
+
+// What the first bytes leave of the machine, if it needn't look at each of them.
+fn skipped(from: Place, bytes: usize) -> Scanned
+    ensures none { bytes ≡ 0 → (state_of result.place ≡ state_of from) × (result.cut ≡ None) }
+    ensures some { 0 < bytes → (state_of result.place ≡ state.StartRecord)
+        × (result.cut ≡ Some bytes) }
+{
+    if bytes == 0 {
+        Scanned {
+            place: from,
+            cut: None,
+        }
+    } else {
+        Scanned {
+            place: Place::StartRecord,
+            cut: Some(bytes),
+        }
+    }
+}
+
+/// Looks at these bytes once, from this place on.
 pub(crate) fn scan(from: Place, bytes: &[u8]) -> Scanned
     ensures place { state_of result.place
         ≡ state_after default_config (state_of from) bytes.now }
     ensures cut { IsLastCut default_config (state_of from) bytes.now result.cut }
 {
-    let mut scan = Scanned {
-        place: from,
-        cut: None,
-    };
-    for i in 0..bytes.len() {
+    let plain = plain_lines(from, bytes);
+    let mut scan = skipped(from, plain);
+    for i in plain..bytes.len() {
         scan = scan.and_byte(bytes[i], i + 1);
     }
     scan

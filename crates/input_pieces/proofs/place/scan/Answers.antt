@@ -3,8 +3,12 @@ use Rattle.std.proofs.lemmas.List.{take_all}
 use Rattle.csv.specs.Reading.{default_config}
 use Rattle.input_pieces.specs.Cut.{IsLastCut, state_after}
 use Rattle.input_pieces.specs.Places.{state_of}
+use Rattle.input_pieces.proofs.PlainLemmas.{skipped_is}
 use Rattle.input_pieces.proofs.ScanLemmas.{scan_more, scan_place}
 use Rattle.input_pieces.proofs.place.scan.Goals as goal
+
+pub loop-i-init : goal.loop-i-init
+loop-i-init c = skipped_is (state_of c.args.from) (state_of c.skipped-scan.result.place) c.args.bytes.now c.plain_lines-plain.result c.skipped-scan.result.cut c.plain_lines-plain.ensures.within c.plain_lines-plain.ensures.start c.skipped-scan.ensures.none c.skipped-scan.ensures.some
 
 pub loop-i-preserved : goal.loop-i-preserved
 loop-i-preserved c =
