@@ -1,6 +1,7 @@
 -- Lines without a quote: the machine stands at a record's start behind each.
-use Rattle.std.proofs.Common.{◌≡◌, ◌∙◌, ◌<◌, ◌≤◌, ◌+◌, ◌==◌, ℕ, zero, suc, List, [], ◌∷◌, Option, None, Some, Bool, true, false, cond, refl, sym, subst, ap, arith, get_or, length, take}
-use Rattle.std.proofs.lemmas.List.{drop_all, get_or-take, length-take-le, take_all, take_more}
+use Rattle.std.proofs.Common.{◌≡◌, ◌∙◌, ◌<◌, ◌≤◌, ◌+◌, ◌==◌, ℕ, zero, suc, ◌-◌, List, ◌∷◌, [], Some, Bool, true, false, cond, refl, sym, subst, ap, arith, get_or, length, take, drop}
+use Rattle.std.proofs.Math.Seq.{take-add}
+use Rattle.std.proofs.lemmas.List.{drop_all, get_or-take, length-drop, length-take-le, take_all, take_more}
 use Rattle.std.proofs.lemmas.Bool.{eqb-true}
 use Rattle.csv.specs.Machine.{after_end, carriage_return, ends_with, in_field, line_feed, start_field, start_record, step}
 use Rattle.csv.specs.Reading.{default_config}
@@ -9,10 +10,7 @@ use Rattle.csv.specs.declared.parser.Action.TheVariants as act
 use Rattle.csv.specs.declared.parser.State.{State}
 use Rattle.csv.specs.declared.parser.State.TheVariants as st
 use Rattle.memchr.specs.Find.{Nowhere, Passes, is_byte}
-use Rattle.input_pieces.specs.declared.place.Place.{Place}
-use Rattle.input_pieces.specs.declared.place.Place.TheVariants as place
-use Rattle.input_pieces.specs.Cut.{IsLastCut, has_cut, state_after}
-use Rattle.input_pieces.specs.Places.{state_of}
+use Rattle.input_pieces.specs.Cut.{IsLastCut, has_cut, is_start, state_after}
 use Rattle.input_pieces.proofs.ScanLemmas.{state_after-append}
 
 -- states outside of quotes, escapes and comments
@@ -25,6 +23,16 @@ IsPlain st.AfterQuote = Unit {0}
 IsPlain st.InEscape = ⊥
 IsPlain st.InComment = ⊥
 IsPlain st.AfterCr = Unit {0}
+
+pub plain_start : (s : State) → is_start s ≡ true → IsPlain s
+plain_start st.StartRecord e = tt
+plain_start st.StartField e = tt
+plain_start st.InField e = tt
+plain_start st.InQuoted e = cc
+plain_start st.AfterQuote e = tt
+plain_start st.InEscape e = cc
+plain_start st.InComment e = cc
+plain_start st.AfterCr e = tt
 
 plain_if : (b : Bool) (x y : State × Action) → IsPlain x.0 → IsPlain y.0 → IsPlain (cond b x y).0
 plain_if true x y g h = g
@@ -86,14 +94,6 @@ plain_upto s xs (suc i) p le none =
     subst (λ (n : ℕ). IsPlain (state_after default_config s (take n xs))) next
     (subst IsPlain (sym (one_more s xs i (omega (arith, le)))) (plain_step (state_after default_config s (take i xs)) (get_or xs i 0) before here))
 
-pub plain_place : (from : Place) → ¬ (from ≡ place.InQuoted) → IsPlain (state_of from)
-plain_place place.StartRecord none = tt
-plain_place place.StartField none = tt
-plain_place place.InField none = tt
-plain_place place.InQuoted none = absurd (none refl)
-plain_place place.AfterQuote none = tt
-plain_place place.AfterCr none = tt
-
 -- behind a line feed before the first quote a record may begin
 pub after_line : (s : State) (xs : List ℕ) (plain end : ℕ) → IsPlain s → plain ≤ length xs → Nowhere (Passes (is_byte default_config.quote) xs) 0 plain → end < plain → Passes (is_byte line_feed) (take plain xs) end
     → state_after default_config s (take (end + 1) xs) ≡ st.StartRecord
@@ -105,7 +105,7 @@ after_line s xs plain end p le none lt feed =
     ∙ fed_step (state_after default_config s (take end xs)) before
 
 -- whole lines that were passed over are the last cut of what was looked at
-pub skipped_cut : (s : State) (xs : List ℕ) (n : ℕ) → 0 < n → n ≤ length xs → state_after default_config s (take n xs) ≡ st.StartRecord → IsLastCut default_config s (take n xs) (Some n)
+skipped_cut : (s : State) (xs : List ℕ) (n : ℕ) → 0 < n → n ≤ length xs → state_after default_config s (take n xs) ≡ st.StartRecord → IsLastCut default_config s (take n xs) (Some n)
 skipped_cut s xs n pos le at =
     let long : length (take n xs) ≡ n = length-take-le n xs le in
     let all : length (take n xs) ≤ n = omega (arith, long) in (
@@ -115,13 +115,15 @@ skipped_cut s xs n pos le at =
       ap (has_cut default_config st.StartRecord) (drop_all n (take n xs) all),
     )
 
--- what a scan begins with
-pub skipped_is : (s t : State) (xs : List ℕ) (n : ℕ) (cut : Option ℕ) → n ≤ length xs → (0 < n → state_after default_config s (take n xs) ≡ st.StartRecord) → (n ≡ 0 → (t ≡ s) × (cut ≡ None)) → (0 < n → (t ≡ st.StartRecord) × (cut ≡ Some n))
-    → (t ≡ state_after default_config s (take n xs)) × IsLastCut default_config s (take n xs) cut
-skipped_is s t xs zero cut le at none some =
-    let is : cut ≡ None = (none refl).1 in
-    ((none refl).0, subst (λ (o : Option ℕ). IsLastCut default_config s [] o) (sym is) refl)
-skipped_is s t xs (suc m) cut le at none some =
-    let has : 0 < suc m = omega arith in
-    let is : cut ≡ Some (suc m) = (some has).1 in
-    ((some has).0 ∙ sym (at has), subst (λ (o : Option ℕ). IsLastCut default_config s (take (suc m) xs) o) (sym is) (skipped_cut s xs (suc m) has le (at has)))
+-- a scan that passes over whole lines of the rest ends at a cut
+pub passed_over : (s t : State) (xs rest : List ℕ) (i n : ℕ) → rest ≡ drop i xs → i ≤ length xs → n ≤ length rest → 0 < n → t ≡ state_after default_config s (take i xs) → state_after default_config t (take n rest) ≡ st.StartRecord
+    → (st.StartRecord ≡ state_after default_config s (take (i + n) xs)) × IsLastCut default_config s (take (i + n) xs) (Some (i + n))
+passed_over s t xs rest i n is low high pos before at =
+    let there : state_after default_config s (take (i + n) xs) ≡ st.StartRecord =
+    ap (state_after default_config s) (take-add i n xs)
+    ∙ state_after-append default_config s (take i xs) (take n (drop i xs))
+    ∙ ap (λ (u : State). state_after default_config u (take n (drop i xs))) (sym before)
+    ∙ ap (λ l. state_after default_config t (take n l)) (sym is)
+    ∙ at in
+    let long : length rest ≡ length xs - i = ap length is ∙ length-drop i xs in
+    (sym there, skipped_cut s xs (i + n) (omega (arith, pos)) (omega (arith, low, high, long)) there)

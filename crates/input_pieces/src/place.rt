@@ -99,6 +99,7 @@ fn in_field(byte: u8) -> Place
 }
 
 /// What bytes leave of the machine.
+#[derive(Drop)]
 pub(crate) struct Scanned {
     /// The place after the last byte.
     pub(crate) place: Place,
@@ -127,14 +128,14 @@ impl Scanned {
     }
 }
 
-// How many of the first bytes are whole lines without a quote, unless a quoted field is open. A
-// record may begin behind them, so the machine needn't look at each of them.
+// How many of the first bytes are whole lines without a quote, if a record may begin here. Behind
+// them a record may begin too, so the machine needn't look at each of them.
 fn plain_lines(from: Place, bytes: &[u8]) -> usize
     ensures within { result ≤ length bytes.now }
     ensures start { 0 < result → state_after default_config (state_of from) (take result bytes.now)
         ≡ state.StartRecord }
 {
-    if let Place::InQuoted = from {
+    if !from.is_start() {
         return 0;
     }
     match memrchr(b'\n', &bytes[..quoteless(bytes)]) {
@@ -154,35 +155,29 @@ fn quoteless(bytes: &[u8]) -> usize
     }
 }
 
-// What the first bytes leave of the machine, if it needn't look at each of them.
-fn skipped(from: Place, bytes: usize) -> Scanned
-    ensures none { bytes ≡ 0 → (state_of result.place ≡ state_of from) × (result.cut ≡ None) }
-    ensures some { 0 < bytes → (state_of result.place ≡ state.StartRecord)
-        × (result.cut ≡ Some bytes) }
-{
-    if bytes == 0 {
-        Scanned {
-            place: from,
-            cut: None,
-        }
-    } else {
-        Scanned {
-            place: Place::StartRecord,
-            cut: Some(bytes),
-        }
-    }
-}
-
 /// Looks at these bytes once, from this place on.
 pub(crate) fn scan(from: Place, bytes: &[u8]) -> Scanned
     ensures place { state_of result.place
         ≡ state_after default_config (state_of from) bytes.now }
     ensures cut { IsLastCut default_config (state_of from) bytes.now result.cut }
 {
-    let plain = plain_lines(from, bytes);
-    let mut scan = skipped(from, plain);
-    for i in plain..bytes.len() {
-        scan = scan.and_byte(bytes[i], i + 1);
+    let mut scan = Scanned {
+        place: from,
+        cut: None,
+    };
+    let mut i = 0;
+    while i < bytes.len() {
+        let plain = plain_lines(scan.place, &bytes[i..]);
+        if plain > 0 {
+            i += plain;
+            scan = Scanned {
+                place: Place::StartRecord,
+                cut: Some(i),
+            };
+        } else {
+            scan = scan.and_byte(bytes[i], i + 1);
+            i += 1;
+        }
     }
     scan
 }
