@@ -10,6 +10,10 @@ ghost use Rattle.input_pieces.specs.Places.{state_of};
 
 use memchr::{memchr, memrchr};
 
+/// How many bytes are looked at at once for whole lines without a quote. So what is looked at twice
+/// is bounded, also where each line is blank or long.
+const LOOK: usize = 512;
+
 /// Where the machine stands in a record: a state of the machine of `csv`, as it reads by default.
 #[derive(Clone, Copy)]
 pub(crate) enum Place {
@@ -144,14 +148,15 @@ fn plain_lines(from: Place, bytes: &[u8]) -> usize
     }
 }
 
-// How many bytes stand before the first quote.
+// How many bytes stand before the first quote, of those that are looked at at once.
 fn quoteless(bytes: &[u8]) -> usize
     ensures within { result ≤ length bytes.now }
     ensures none { Nowhere (Passes (is_byte default_config.quote) bytes.now) 0 result }
 {
-    match memchr(b'"', bytes) {
+    let near = &bytes[..bytes.len().min(LOOK)];
+    match memchr(b'"', near) {
         Some(quote) => quote,
-        None => bytes.len(),
+        None => near.len(),
     }
 }
 
