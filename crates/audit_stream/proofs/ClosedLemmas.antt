@@ -3,6 +3,7 @@ use Rattle.std.proofs.Common.{◌≡◌, ◌∙◌, ◌<◌, ◌≤◌, ◌+◌,
 use Rattle.std.specs.Prelude.{◌&&◌, ◌||◌, filter, not}
 use Rattle.std.proofs.lemmas.List.{append_assoc, append-nil, length-append}
 use Rattle.std.proofs.lemmas.List.Folds.{list_any-append}
+use Rattle.flow_model.proofs.GatheredLemmas.{or_false}
 use Rattle.audit_stream.specs.Together.{has_stop, tells_stop, last_ends}
 use Rattle.audit_stream.specs.Sorting.{closed_from, closes, stop_place}
 
@@ -28,10 +29,6 @@ either false fields xs ys = refl
 or_true : (b : Bool) → (b || true) ≡ true
 or_true true = refl
 or_true false = refl
-
-or_false : (b : Bool) → (b || false) ≡ b
-or_false true = refl
-or_false false = refl
 
 stop_later : (xs ys : List (List (List ℕ))) → has_stop ys ≡ true → has_stop (xs ++ ys) ≡ true
 stop_later xs ys e = list_any-append tells_stop xs ys ∙ (rw e (or_true (has_stop xs)))

@@ -6,7 +6,6 @@ use Rattle.sink_journal.specs.declared.journal.Feed.TheVariants as feed
 use Rattle.tuple_trace.specs.declared.row.Row.{Row}
 use Rattle.flow_model.specs.Begin.{Begin}
 use Rattle.flow_model.specs.Feeding.{feed_after, feed_from, issued_after, issued_at_first, issued_where}
-use Rattle.flow_model.specs.Requests.{afters}
 use Rattle.flow_model.specs.SetupView.{SetupView}
 use Rattle.flow_model.proofs.FreshLemmas.{count_all, count_at_first, count_next, count_to}
 use Rattle.coordinator.specs.Feeding.{IsFeeder, issue_rows, issued_in, waits}

@@ -1,5 +1,5 @@
 -- The requests that judging accepts are some of those that are judged.
-use Rattle.std.proofs.Common.{◌≡◌, ◌≤◌, ◌+◌, ℕ, List, [], ◌∷◌, Option, None, Some, All, inl, inr, refl, sym, subst, length, arith}
+use Rattle.std.proofs.Common.{◌≡◌, ◌≤◌, ◌+◌, ℕ, List, [], ◌∷◌, Option, None, Some, All, inl, inr, length, arith}
 use Rattle.jobs.specs.JobView.{JobView}
 use Rattle.jobs.specs.Limits.{oversize}
 use Rattle.versions.specs.Book.{accepted, first_book}

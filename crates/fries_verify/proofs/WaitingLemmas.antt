@@ -1,5 +1,5 @@
 -- Setups whose requests wait for other rows have the planner's plans too.
-use Rattle.std.proofs.Common.{◌∙◌, ◌||◌, ℕ, List, ap, refl, subst, sym, slice_get}
+use Rattle.std.proofs.Common.{◌∙◌, ◌||◌, ℕ, List, subst, sym, slice_get}
 use Rattle.std.specs.Prelude.{◌↔◌, IsTrue}
 use Rattle.flow_dag.specs.Masks.{Has}
 use Rattle.flow_model.specs.Planned.{ArePlansOf, IsExactForStream}

@@ -1,5 +1,5 @@
 // The cells of a record of CSV.
-ghost use Rattle.std.specs.Prelude.{◌≡◌, ◌≢◌, ◌∷◌, [], IfNone, IfOk, IfSome, MatchBool, get_or};
+ghost use Rattle.std.specs.Prelude.{◌≡◌, ◌≢◌, ◌∷◌, [], IfNone, IfSome, get_or};
 ghost use Rattle.std.specs.Prelude.{length};
 ghost use Rattle.csv.specs.Records.{fields_of};
 

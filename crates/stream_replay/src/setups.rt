@@ -1,6 +1,5 @@
 // The setup of a part.
 ghost use Rattle.std.specs.Prelude.{◌≡◌, ◌≤◌, IfOk, length};
-ghost use Rattle.jobs.specs.Job.{job_view};
 ghost use Rattle.flow_model.specs.Setup.{setup_view};
 ghost use Rattle.savepoint.specs.Parts.{first_of};
 ghost use Rattle.stream_replay.specs.inner.Progress.{IsOfWhole, with_all};

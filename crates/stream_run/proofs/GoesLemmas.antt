@@ -1,5 +1,5 @@
 -- A stream goes on part by part, and so do its files.
-use Rattle.std.proofs.Common.{append-nil, ◌≡◌, ◌∙◌, ◌++◌, ℕ, List, [], ◌∷◌, Option, None, Some, inl}
+use Rattle.std.proofs.Common.{append-nil, ◌≡◌, ◌∙◌, ◌++◌, ℕ, List, [], ◌∷◌, Option, inl}
 use Rattle.std.proofs.Common.{append_assoc, inr, refl, sym, subst, ap}
 use Rattle.std.proofs.lemmas.Grind.{flat_map-append}
 use Rattle.jobs.specs.Job.{job_view}

@@ -20,7 +20,7 @@ use Rattle.stream_step.specs.Parts.{IsBetweenRows, IsRunOn, due_in}
 use Rattle.stream_step.specs.Pending.{AreAsked, lifted}
 use Rattle.stream_step.specs.declared.stream.Stream.{Stream}
 use Rattle.stream_step.proofs.PendingLemmas.{between_rows}
-use Rattle.stream_run.specs.Growing.{Ended, Goes, GoesAndStops, IsBooked, IsOnePart, Names}
+use Rattle.stream_run.specs.Growing.{Goes, GoesAndStops, IsBooked, IsOnePart, Names}
 use Rattle.stream_run.specs.Growing.{without_counts}
 use Rattle.stream_run.specs.Parts.{HaveRun, KeepsAsked, Part}
 use Rattle.stream_run.specs.declared.books.Books.{Books}

@@ -8,7 +8,6 @@ ghost use Rattle.tuple_trace.specs.FeedRows.{AreRowsAfter, blanks};
 ghost use Rattle.versions.specs.Judged.{AreAccepted};
 ghost use Rattle.versions.specs.declared.request.Request.{Request};
 ghost use Rattle.flow_model.specs.Record.{record_view};
-ghost use Rattle.flow_model.specs.Setup.{setup_view};
 ghost use Rattle.flow_model.specs.Workers.{workers_in};
 ghost use Rattle.savepoint.specs.Parts.{start_of};
 ghost use Rattle.stream_step.specs.Parts.{IsRunOn, due_in, left_by_parts};

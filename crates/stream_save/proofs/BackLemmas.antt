@@ -1,16 +1,15 @@
 -- A stream's savepoint that is read can be saved.
-use Rattle.std.proofs.Common.{◌≡◌, ◌∙◌, ◌<◌, ◌≤◌, ◌+◌, ◌-◌, ◌^◌, ◌&&◌, ℕ, zero, suc, Bool, true, false, List, [], ◌∷◌, Option, Some, None, Result, Ok, Err, refl, sym, subst, ap, arith, codes, drop, length, map, nat_le, if◌then◌else◌}
+use Rattle.std.proofs.Common.{◌≡◌, ◌∙◌, ◌<◌, ◌≤◌, ◌+◌, ◌-◌, ◌^◌, ◌&&◌, ℕ, zero, suc, Bool, true, false, List, [], ◌∷◌, Option, Some, None, Result, Ok, Err, refl, subst, ap, arith, codes, drop, length, map, nat_le, if◌then◌else◌}
 use Rattle.std.proofs.lemmas.Bool.{leb-true}
 use Rattle.csv.specs.Reading.{default_config, records, strip_bom}
 use Rattle.tuple_trace.specs.Digits.{at_most, digits_of}
 use Rattle.jobs.specs.JobView.{JobView}
 use Rattle.flow_model.specs.Begin.{Begin}
 use Rattle.flow_model.specs.Workers.{workers_in}
-use Rattle.savepoint.specs.SaveReading.{Placed, Spelled, begin_with, both, counts_at, head_number, is_exactly, one_more, one_spelled, placed_from, spelled_from}
+use Rattle.savepoint.specs.SaveReading.{Placed, Spelled, begin_with, both, counts_at, head_number, is_exactly, one_spelled, placed_from, spelled_from}
 use Rattle.savepoint.specs.declared.fault.SaveFault.{SaveFault}
 use Rattle.stream_save.specs.StreamReading.{AreWaits, CanSaveStream, Head, stream_head_read, head_with, misplaced, save_after, save_by, stream_save_in, save_unless, stream_save_with, saved_at, stream_save_of, wait_read, waits_read}
 use Rattle.stream_save.specs.StreamText.{StreamSave}
-use Rattle.stream_save.specs.declared.fault.StreamSaveFault.{StreamSaveFault}
 use Rattle.stream_save.proofs.CountLemmas.{all_fit, can-save, have_places}
 
 -- ---- the first record

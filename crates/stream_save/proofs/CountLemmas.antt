@@ -1,7 +1,7 @@
 -- Counts that are read can be saved.
 use Rattle.std.proofs.Common.{FitsSigned, IsTrue, w64, ◌≡◌, ◌∙◌, ◌<◌, ◌≤◌, ◌+◌, ◌==◌, ◌&&◌, ◌^◌, ℕ, ℤ, zero, suc, pos, List, [], ◌∷◌, inl, inr, refl, sym, subst, ap, arith, true, false, Bool, All, length, map, filter, get_or, nat_le, nat_lt, option_map, Some, None, Option, Result, Ok, Err, slice_get, if◌then◌else◌}
 use Rattle.std.specs.Prelude.{neg_ℤ, position}
-use Rattle.std.specs.FinMap.{empty, entries, from_entries}
+use Rattle.std.specs.FinMap.{empty, entries}
 use Rattle.std.proofs.lemmas.Bool.{and_parts, eqb-true, leb-true, ltb-true}
 use Rattle.std.proofs.lemmas.List.{length-map}
 use Rattle.std.proofs.lemmas.List.Quantifiers.{position-Some}

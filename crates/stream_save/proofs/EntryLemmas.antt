@@ -1,7 +1,7 @@
 -- What holds of all entries that a map is made of holds of its own.
 use Rattle.std.proofs.Common.{Equal, Greater, Less, Ordering, ◌≡◌, ℕ, ℤ, List, [], ◌∷◌, inl, inr, refl, sym, subst}
 use Rattle.std.specs.Cmp.Lexicographic.{nat_list_cmp_total, slice_cmp}
-use Rattle.std.specs.FinMap.{empty, entries, entries-insert, from_entries, insert}
+use Rattle.std.specs.FinMap.{empty, entries, entries-insert, from_entries}
 use Rattle.std.specs.FinMap.Entries.{by_order, put}
 use Rattle.std.specs.Ordering.{nat_cmp}
 use Rattle.keyed_state.specs.Counts.{Counts}

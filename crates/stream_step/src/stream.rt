@@ -1,5 +1,5 @@
 ghost use Rattle.std.specs.Prelude.{◌≡◌, ◌↔◌, ◌<◌, ◌≤◌, ◌++◌, ◌&&◌, ◌||◌, ℕ, [], IfOk, IfSome};
-ghost use Rattle.std.specs.Prelude.{IsTrue, List, None, Some, is_some, length, map, nat_le};
+ghost use Rattle.std.specs.Prelude.{IsTrue, List, None, is_some, length, map, nat_le};
 ghost use Rattle.std.specs.Prelude.{slice_get};
 ghost use Rattle.std.specs.List.{list_all, list_any};
 ghost use Rattle.flow_dag.specs.Masks.{Has};

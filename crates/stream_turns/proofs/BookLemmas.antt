@@ -1,7 +1,7 @@
 -- What is booked of a stream, turn after turn.
 use Rattle.std.proofs.Common.{◌≡◌, ◌∙◌, ◌++◌, ℕ, List, [], Option, Some, ap, append-nil}
 use Rattle.std.proofs.Common.{inl, inr}
-use Rattle.std.proofs.Common.{append_assoc, drop, length, map, refl, subst, sym}
+use Rattle.std.proofs.Common.{append_assoc, drop, length, map, subst, sym}
 use Rattle.std.proofs.Math.Seq.{drop-append_seam}
 use Rattle.std.proofs.lemmas.Grind.{flat_map-append}
 use Rattle.std.proofs.lemmas.List.{map-append}
@@ -9,12 +9,10 @@ use Rattle.jobs.specs.Job.{job_view}
 use Rattle.jobs.specs.JobView.{JobView}
 use Rattle.payments.specs.Causes.{Faults}
 use Rattle.payments.specs.Files.{Files}
-use Rattle.sink_journal.specs.declared.audit.Noted.{Noted}
 use Rattle.versions.specs.Judged.{judged_within}
 use Rattle.versions.specs.declared.in_order.Refused.{Refused}
 use Rattle.versions.specs.declared.request.Request.{Request}
 use Rattle.fries_lines.specs.Lines.{noted}
-use Rattle.stream_law.specs.Later.{IsJudgedPrefix}
 use Rattle.stream_intake.specs.Intake.{refused_after}
 use Rattle.stream_intake.specs.declared.known.Known.{Known}
 use Rattle.stream_run.specs.Growing.{IsBooked, Written, all_counted, refused_in, told_in}

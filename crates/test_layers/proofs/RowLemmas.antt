@@ -1,5 +1,5 @@
 -- Rows behind others.
-use Rattle.std.proofs.Common.{◌≡◌, ◌+◌, ℕ, zero, suc, [], ◌∷◌, Some, arith, subst}
+use Rattle.std.proofs.Common.{◌≡◌, ◌+◌, ℕ, zero, suc, [], ◌∷◌, arith, subst}
 use Rattle.std.proofs.lemmas.Option.{same_Some}
 use Rattle.tuple_trace.specs.FeedRows.{AreRowsAfter}
 use Rattle.tuple_trace.specs.Rows.{IsRow}

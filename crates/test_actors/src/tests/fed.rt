@@ -1,5 +1,4 @@
-ghost use Rattle.std.specs.Prelude.{◌≡◌, ℕ, [], map};
-ghost use Rattle.flow_dag.specs.Graph.{IsEdge};
+ghost use Rattle.std.specs.Prelude.{◌≡◌, [], map};
 ghost use Rattle.jobs.specs.Job.{job_view};
 ghost use Rattle.coordinator.specs.Starts.{AreNewOuts};
 ghost use Rattle.test_actors.specs.Fed.{IsUnled};

@@ -6,8 +6,6 @@ use Rattle.jobs.specs.Nodes.{AreFromSources}
 use Rattle.tuple_trace.specs.FeedRows.{blanks}
 use Rattle.tuple_trace.specs.declared.row.Row.{Row}
 use Rattle.flow_model.specs.SetupView.{SetupView}
-use Rattle.flow_model.specs.Run.{IsRunSince}
-use Rattle.flow_model.specs.Begin.{Begin}
 use Rattle.stream_step.specs.declared.stream.Stream.{Stream}
 use Rattle.stream_parts.proofs.EndLemmas.{last_journals, last_on, last_states, sources_blank}
 use Rattle.stream_parts.proofs.end.run_last.Goals as goal

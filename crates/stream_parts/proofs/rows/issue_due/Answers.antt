@@ -1,6 +1,5 @@
 use Rattle.std.proofs.Common.{◌≡◌, ◌∙◌, [], arith, subst, sym}
 use Rattle.std.proofs.lemmas.Result.{IfOk-weaker}
-use Rattle.std.specs.Prelude.{IfSome}
 use Rattle.stream_run.proofs.GoesLemmas.{goes_booked-same}
 use Rattle.stream_parts.specs.InTime.{IssuesFirst}
 use Rattle.stream_parts.proofs.TimeLemmas.{after-undue, issues-none, issues-one, left-undue, some-all}

@@ -5,7 +5,6 @@ use Rattle.tuple_trace.specs.FeedRows.{AreRowsAfter}
 use Rattle.tuple_trace.specs.declared.row.Row.{Row}
 use Rattle.stream_run.specs.Growing.{Goes, IsBooked}
 use Rattle.stream_run.specs.Parts.{KeepsAsked}
-use Rattle.stream_run.specs.Standing.{Stands}
 use Rattle.stream_parts.specs.InTime.{IssuesFirst}
 use Rattle.stream_parts.proofs.TimeLemmas.{IsInStep}
 use Rattle.stream_parts.proofs.rows.run_all.Given as goal

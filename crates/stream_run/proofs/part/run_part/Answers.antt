@@ -1,4 +1,4 @@
-use Rattle.std.proofs.Common.{◌≡◌, ◌∙◌, ◌++◌, IsTrue, List, ap, arith, length, map, nat_le, subst}
+use Rattle.std.proofs.Common.{◌≡◌, ◌∙◌, ◌++◌, IsTrue, List, ap, arith, map, nat_le, subst}
 use Rattle.std.proofs.Common.{sym}
 use Rattle.std.specs.List.{list_all}
 use Rattle.jobs.specs.Job.{job_view}

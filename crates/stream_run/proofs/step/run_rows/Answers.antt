@@ -1,4 +1,4 @@
-use Rattle.std.proofs.Common.{◌≡◌, ◌∙◌, refl, sym}
+use Rattle.std.proofs.Common.{◌≡◌, ◌∙◌, refl}
 use Rattle.std.proofs.lemmas.Result.{err_from_is_err_and}
 use Rattle.stream_run.proofs.GoesLemmas.{stands-then, stops-between}
 use Rattle.stream_run.proofs.StepLemmas.{kept, stopped, tally_as, written}

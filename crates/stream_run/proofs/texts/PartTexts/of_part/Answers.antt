@@ -1,8 +1,6 @@
 use Rattle.std.proofs.Common.{ap, arith, length}
-use Rattle.jobs.specs.Nodes.{worker_count}
 use Rattle.flow_model.specs.Begin.{Begin}
 use Rattle.flow_model.specs.Setup.{setup_view}
-use Rattle.flow_model.specs.declared.record.RunRecord.{RunRecord}
 use Rattle.flow_model.proofs.StartLemmas.{states_first}
 use Rattle.flow_model.proofs.WorkerListLemmas.{length-workers_from}
 use Rattle.stream_run.proofs.texts.PartTexts.of_part.Goals as goal
