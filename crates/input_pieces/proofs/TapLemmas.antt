@@ -43,10 +43,9 @@ kept_by_read left still (Ok n) part read = tt
 kept_by_read left still (Err e) part read = read
 
 -- a text that was made longer begins with what it was
-pub resize_keeps : (b : Bool) (text zeros items : List ℕ) (k from : ℕ) → items ≡ cond b (take k text ++ zeros) text → from ≡ length text → from ≤ k → take from items ≡ text
-resize_keeps true text zeros items k from is long le =
-    ap (take from) (is ∙ ap (λ l. l ++ zeros) (take_all k text (omega arith))) ∙ take_at text zeros from (sym long)
-resize_keeps false text zeros items k from is long le = ap (take from) is ∙ take_all from text (omega arith)
+pub extend_keeps : (b : Bool) (text more items : List ℕ) (from : ℕ) → items ≡ cond b (text ++ more) text → from ≡ length text → take from items ≡ text
+extend_keeps true text more items from is long = ap (take from) is ∙ take_at text more from (sym long)
+extend_keeps false text more items from is long = ap (take from) is ∙ take_all from text (omega arith)
 
 -- a text grew by what was read behind it
 pub read_behind_text : (text room grown : List ℕ) (from n : ℕ) → take from room ≡ text → grown ≡ take (from + n) room → text ++ take n (drop from room) ≡ grown

@@ -6,7 +6,10 @@ ghost use Rattle.std.specs.Io.KnownBytes.{Consumes, IsAtEnd, Keeps};
 ghost use Rattle.input_pieces.specs.Gathering.{Gathers, PieceCause};
 ghost use Rattle.input_pieces.specs.Taps.{TapCause};
 
-use crate::{MAX_RECORD, PieceFault, Tap, TapFailed};
+use crate::{MAX_RECORD, PieceFault, READ_SIZE, Tap, TapFailed};
+
+// Room for a read. It is copied, since a list that is filled grows byte by byte.
+const BLANK: [u8; READ_SIZE] = [0; READ_SIZE];
 
 /// Reads once behind a text, at most `most` bytes, and returns how many. After an error the text is
 /// as before.
@@ -16,6 +19,7 @@ pub(crate) fn read_behind<T: Tap>(
     most: usize,
 ) -> Result<usize, PieceFault>
     requires some { 0 < most }
+    requires few { most ≤ READ_SIZE }
     requires room { length text.old.items + most ≤ MAX_RECORD }
     ensures gathered { Gathers (T.state tap.old).left (T.state tap.new).left
         text.old.items [] text.new.items }
@@ -28,7 +32,7 @@ pub(crate) fn read_behind<T: Tap>(
     ensures cause { PieceCause result (T.state tap.old).faults (T.state tap.new).faults }
 {
     let from = text.len();
-    if text.resize(from + most, 0).is_err() {
+    if text.extend_from_slice(blank(most)).is_err() {
         return Err(PieceFault::NoMemory);
     }
     match read_from(tap, text.as_mut_slice(), from) {
@@ -41,6 +45,14 @@ pub(crate) fn read_behind<T: Tap>(
             Err(PieceFault::Failed)
         }
     }
+}
+
+// So many blank bytes.
+fn blank(most: usize) -> &'static [u8]
+    requires { most ≤ READ_SIZE }
+    ensures { length result.now ≡ most }
+{
+    &BLANK[..most]
 }
 
 // Reads once into the room from a place on.

@@ -12,6 +12,9 @@ use std::io::{self, ErrorKind, Read, Write};
 use std::rt::Files;
 use tuple_trace::{Bytes, Word};
 
+/// How many bytes a read of a file asks for.
+const READ_SIZE: usize = 16 * 1024;
+
 /// The files of the system. It tells none of their bytes.
 ///
 /// The draft of a regular file, or of one that isn't there, is a file in its folder:
@@ -143,11 +146,20 @@ impl<R: Files + Print + Drop> Shelf for HostShelf<R> {
 }
 
 /// The bytes of a file, of which one more than the limit are read at most, so that a longer file
-/// shows.
+/// shows. Each read goes through a room of its own, which is blanked once.
 fn read_up_to<F: Read + Drop>(alloc: Global, file: F, limit: u64) -> io::Result<Vec<u8>> {
+    let mut file = file.take(limit.saturating_add(1));
+    let mut room = [0; READ_SIZE];
     let mut bytes = Vec::new(alloc);
-    file.take(limit.saturating_add(1)).read_to_end(&mut bytes)?;
-    Ok(bytes)
+    for _ in 0..u64::MAX {
+        match file.read(&mut room) {
+            Ok(0) => return Ok(bytes),
+            Ok(count) => bytes.extend_from_slice(&room[..count])?,
+            Err(error) if error.kind() == ErrorKind::Interrupted => {}
+            Err(error) => return Err(error),
+        }
+    }
+    Err(ErrorKind::Interrupted.into())
 }
 
 /// A standard stream: what this runtime prints to. It tells nothing of what was written. A write
