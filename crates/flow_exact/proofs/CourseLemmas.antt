@@ -22,7 +22,7 @@ use Rattle.flow_model.specs.Workers.{workers_in}
 use Rattle.flow_model.specs.declared.record.RunRecord.{RunRecord}
 use Rattle.flow_model.specs.declared.setup.Setup.{Setup}
 use Rattle.savepoint.specs.Parts.{joined, start_of}
-use Rattle.stream_border.specs.Border.{AreExactAfter}
+use Rattle.stream_law.specs.Border.{AreExactAfter}
 use Rattle.flow_exact.specs.inner.Course.{IsCourse, IsExactRun, ran_of}
 use Rattle.flow_exact.specs.declared.course.Course.{Course}
 use Rattle.flow_exact.proofs.ExactLemmas.{exact_begun, exact_request, exact_rows}

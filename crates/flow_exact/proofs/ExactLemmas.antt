@@ -20,7 +20,7 @@ use Rattle.savepoint.specs.Parts.{first_of, joined, start_of}
 use Rattle.stream_law.specs.Stream.{IsNextPart, RunPart, SoFar}
 use Rattle.stream_law.proofs.ExtendedLemmas.{first_extended}
 use Rattle.stream_law.proofs.NextLemmas.{next_run}
-use Rattle.stream_border.proofs.ExactLemmas.{exact_first, exact_next}
+use Rattle.stream_law.proofs.ExactLemmas.{exact_first, exact_next}
 use Rattle.flow_exact.specs.inner.Course.{IsExactRun}
 use Rattle.savepoint.proofs.PartsLemmas.{AreRows-take}
 

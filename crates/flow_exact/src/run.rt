@@ -7,7 +7,7 @@ ghost use Rattle.flow_model.specs.Planned.{IsPlanned};
 ghost use Rattle.flow_model.specs.Record.{record_view};
 ghost use Rattle.flow_model.specs.Run.{IsRun};
 ghost use Rattle.flow_model.specs.Setup.{setup_view};
-ghost use Rattle.stream_border.specs.Border.{AreExactAfter};
+ghost use Rattle.stream_law.specs.Border.{AreExactAfter};
 ghost use Rattle.flow_exact.specs.inner.Course.{IsCourse, with_requests};
 
 use crate::course::Course;

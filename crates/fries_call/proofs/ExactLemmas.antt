@@ -7,7 +7,7 @@ use Rattle.flow_model.specs.Planned.{IsExact}
 use Rattle.flow_model.specs.Setup.{setup_view}
 use Rattle.flow_model.specs.SetupView.{SetupView}
 use Rattle.flow_model.specs.declared.setup.Setup.{Setup}
-use Rattle.flow_plans.specs.Determined.{NumbersAllNodes}
+use Rattle.flow_laws.specs.Determined.{NumbersAllNodes}
 use Rattle.fries_steps.specs.SetupFor.{AreSame, IsSetupFor}
 
 pub setup_seen : (ordered : Bool) (job : JobView) (requests : List Request) (setup left : Setup) →

@@ -1,6 +1,6 @@
 -- What a call of `run` runs, and how it ends.
 use Rattle.std.specs.Prelude.{◌⊎◌, IsTrue, List, Option, None, Some}
-use Rattle.stream_border.specs.Border.{AreExactAfter}
+use Rattle.stream_law.specs.Border.{AreExactAfter}
 use Rattle.flow_model.specs.Record.{record_view}
 use Rattle.flow_model.specs.Setup.{setup_view}
 use Rattle.jobs.specs.JobView.{JobView}

@@ -23,7 +23,7 @@ use Rattle.flow_worker.specs.Parts.{WorkedIs}
 use Rattle.coordinator.specs.Boxes.{LastAtLeast}
 use Rattle.coordinator.specs.Feeding.{issue_rows}
 use Rattle.flow_engine.specs.Flown.{flown_record}
-use Rattle.flow_plans.specs.Determined.{NumbersAllNodes}
+use Rattle.flow_laws.specs.Determined.{NumbersAllNodes}
 use Rattle.flow_engine.specs.Recorded.{NoneIsEarly}
 use Rattle.live_control.specs.Asking.{AsksIs}
 use Rattle.live_control.specs.Hearing.{IsHeard}

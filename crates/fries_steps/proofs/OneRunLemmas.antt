@@ -13,8 +13,8 @@ use Rattle.flow_model.specs.Run.{IsRun, IsRunSince, Ran}
 use Rattle.flow_model.specs.Setup.{setup_view}
 use Rattle.flow_model.specs.SetupView.{SetupView}
 use Rattle.flow_model.specs.declared.setup.Setup.{Setup}
-use Rattle.flow_plans.specs.Determined.{HasExactPlans}
-use Rattle.flow_plans.proofs.SetupLemmas.{one_setup}
+use Rattle.flow_laws.specs.Determined.{HasExactPlans}
+use Rattle.flow_laws.proofs.SetupLemmas.{one_setup}
 use Rattle.savepoint.specs.Parts.{AreParts, first_of, issued_up_to, joined, start_of}
 use Rattle.savepoint.specs.SaveReading.{save_of}
 use Rattle.savepoint.specs.SaveText.{save_text}

@@ -2,7 +2,7 @@
 use Rattle.std.proofs.Common.{◌≡◌, ◌∙◌, ◌<◌, ◌≤◌, ◌^◌, ℕ, List, All, length, min, take, ap, false, subst, sym, arith}
 use Rattle.std.proofs.lemmas.List.{length-take-le}
 use Rattle.std.proofs.lemmas.List.Elements.{All-take}
-use Rattle.flow_begin.specs.Later.{HasWholeRows}
+use Rattle.flow_laws.specs.Later.{HasWholeRows}
 use Rattle.jobs.specs.Job.{job_view}
 use Rattle.jobs.specs.Limits.{HasShortTexts}
 use Rattle.jobs.specs.Nodes.{AreFromSources, IsSourceOf, worker_count}

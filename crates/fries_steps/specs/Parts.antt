@@ -1,6 +1,6 @@
 -- The two parts of a run with a savepoint between them.
 use Rattle.std.specs.Prelude.{◌≡◌, ℕ, List, length, take, false}
-use Rattle.flow_begin.specs.Later.{HasWholeRows}
+use Rattle.flow_laws.specs.Later.{HasWholeRows}
 use Rattle.jobs.specs.Nodes.{worker_count}
 use Rattle.jobs.specs.JobView.{JobView}
 use Rattle.tuple_trace.specs.declared.row.Row.{Row}

@@ -10,7 +10,7 @@ use Rattle.flow_model.specs.Planned.{IsExact}
 use Rattle.flow_model.specs.Setup.{setup_view}
 use Rattle.flow_model.specs.SetupView.{SetupView}
 use Rattle.flow_model.specs.declared.setup.Setup.{Setup}
-use Rattle.flow_plans.specs.Determined.{NumbersAllNodes}
+use Rattle.flow_laws.specs.Determined.{NumbersAllNodes}
 
 -- the requests that are kept are those that were accepted
 abbrev pub AreSame : List Request → List Request → Type 0

@@ -15,8 +15,8 @@ ghost use Rattle.fries_steps.specs.Parts.{HasWorkers, IsFirstPart, IsRunFromStar
 use crate::host::Host;
 use crate::running::{Done, done_of};
 use crate::setup::setup_of;
-use flow_begin::later_rows_are_whole;
 use flow_engine::{run_flow, run_from};
+use flow_laws::later_rows_are_whole;
 use flow_model::{Setup, Start, runs_are_consistent};
 use fries_words::EngineSize;
 use jobs::Job;

@@ -7,8 +7,8 @@ ghost use Rattle.flow_model.specs.Planned.{IsExact};
 ghost use Rattle.flow_model.specs.Setup.{setup_view};
 ghost use Rattle.fries_steps.specs.SetupFor.{AreSame, IsSetupFor};
 
+use flow_laws::plans_number_all_nodes;
 use flow_model::{Setup, plans_are_least};
-use flow_plans::plans_number_all_nodes;
 use jobs::Job;
 use std::alloc::Global;
 use tuple_trace::NoMemory;

@@ -10,7 +10,7 @@ use Rattle.flow_model.specs.Setup.{setup_view}
 use Rattle.flow_model.specs.SetupView.{SetupView}
 use Rattle.jobs.specs.JobView.{JobView}
 use Rattle.jobs.specs.Nodes.{worker_count}
-use Rattle.flow_plans.specs.Determined.{NumbersAllNodes}
+use Rattle.flow_laws.specs.Determined.{NumbersAllNodes}
 use Rattle.serial_order.specs.Serials.{serials}
 use Rattle.sink_journal.specs.declared.journal.Feed.{Feed}
 use Rattle.tuple_trace.specs.declared.row.Row.{Row}

@@ -6,3 +6,8 @@ pub mod StreamLemmas
 pub mod AgainLemmas
 pub mod PartLemmas
 pub mod TurnLemmas
+mod MovedLemmas
+mod CapLemmas
+mod WholeLemmas
+mod OneRunLemmas
+mod EndedLemmas

@@ -21,7 +21,7 @@ use Rattle.flow_model.specs.Setup.{setup_view}
 use Rattle.flow_model.specs.SetupView.{SetupView}
 use Rattle.flow_model.specs.Waiting.{waiting_for, with_afters}
 use Rattle.flow_model.specs.declared.setup.Setup.{Setup}
-use Rattle.flow_plans.specs.Determined.{NumbersAllNodes}
+use Rattle.flow_laws.specs.Determined.{NumbersAllNodes}
 use Rattle.fries_steps.specs.Live.{AreReleased}
 use Rattle.fries_steps.specs.Reading.{IsRead}
 use Rattle.fries_steps.specs.SetupFor.{AreSame, IsSetupFor, IsSetupWith}

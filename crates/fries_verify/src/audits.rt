@@ -29,7 +29,7 @@ use audit_fault::AuditFault;
 use audit_live::{runs_that_wait_as_shown_are_live, shown_waits, shown_waits_fit};
 use audit_restore::check_audit;
 use audit_stream::put_together;
-use flow_begin::later_rows_are_whole;
+use flow_laws::later_rows_are_whole;
 use flow_model::{Setup, Start, ordered_runs_are_serial, runs_are_consistent};
 use fries_lines::{Fault, FileIs};
 use fries_steps::{Done, done_of, read_file};

@@ -14,8 +14,10 @@ mod in_parts;
 mod laws;
 mod stream_setup;
 mod waits;
+mod whole;
 
 pub use alerts::{check_alerts, verified_lines};
 pub use audits::{Given, audited_later_run, audited_live_run, audited_run, audited_stream};
 pub use laws::streams_are_shown;
 pub use stream_setup::stream_setup_of;
+pub use whole::whole_streams_are_shown;

@@ -5,8 +5,8 @@ ghost use Rattle.job_file.specs.RequestSizes.{AreFew};
 ghost use Rattle.fries_steps.specs.SetupFor.{AreSame};
 ghost use Rattle.fries_verify.specs.StreamSetup.{IsStreamSetupFor};
 
+use flow_laws::plans_number_all_nodes;
 use flow_model::{Setup, plans_are_least};
-use flow_plans::plans_number_all_nodes;
 use jobs::Job;
 use std::alloc::Global;
 use stream_intake::JobMask;

@@ -21,7 +21,7 @@ use Rattle.stream_rows.specs.Reader.{IsReadTo, fed_of}
 use Rattle.stream_step.specs.Parts.{first_part}
 use Rattle.stream_step.specs.Pending.{lifted}
 use Rattle.stream_step.specs.declared.stream.Stream.{Stream}
-use Rattle.stream_border.specs.Border.{AreExactAfter}
+use Rattle.stream_law.specs.Border.{AreExactAfter}
 use Rattle.stream_intake.specs.Intake.{IsKnownTo}
 use Rattle.stream_intake.specs.declared.known.Known.{Known}
 use Rattle.stream_run.specs.Growing.{Goes, GoesAndStops, IsBooked, Names, parts_in}

@@ -17,7 +17,7 @@ use Rattle.stream_rows.specs.Reader.{fed_of}
 use Rattle.stream_save.specs.declared.fault.StreamSaveFault.TheVariants as save
 use Rattle.stream_step.specs.declared.stream.Stream.{Stream}
 use Rattle.stream_run.specs.Files.{alerts_text, audit_text}
-use Rattle.stream_border.specs.Border.{AreExactAfter}
+use Rattle.stream_law.specs.Border.{AreExactAfter}
 use Rattle.stream_intake.specs.Intake.{IsKnownTo}
 use Rattle.stream_run.specs.Growing.{Goes, GoesAndStops, IsBooked, Names, parts_in}
 use Rattle.stream_run.specs.Parts.{HasCome, Part, with_all, with_one}

@@ -8,3 +8,11 @@ pub mod ShownLemmas
 pub mod SplitLemmas
 pub mod WholeLemmas
 pub mod LateLemmas
+pub mod MeetLemmas
+pub mod FedLemmas
+pub mod JoinedLemmas
+pub mod EachLemmas
+pub mod PairLemmas
+pub mod BorderLemmas
+pub mod PartLemmas
+pub mod ExactLemmas

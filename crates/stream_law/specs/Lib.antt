@@ -2,3 +2,4 @@ pub mod Stream
 pub mod Later
 pub mod PartRun
 pub mod LateRequest
+pub mod Border

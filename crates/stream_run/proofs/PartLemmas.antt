@@ -19,7 +19,7 @@ use Rattle.flow_model.specs.SetupView.{SetupView}
 use Rattle.flow_model.specs.declared.setup.Setup.{Setup}
 use Rattle.savepoint.specs.Parts.{start_of}
 use Rattle.stream_law.specs.Stream.{RunPart, SoFar, with_part}
-use Rattle.stream_border.specs.Border.{AreExactAfter}
+use Rattle.stream_law.specs.Border.{AreExactAfter}
 use Rattle.stream_step.specs.Parts.{HasRun, IsBetweenRows, IsFirstRun, IsPartAfter, IsRunOn}
 use Rattle.stream_step.specs.Parts.{first_part}
 use Rattle.stream_step.specs.declared.stream.Stream.{Stream}

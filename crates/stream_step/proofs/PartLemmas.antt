@@ -24,7 +24,7 @@ use Rattle.flow_model.proofs.PlannedLemmas.{has_covers}
 use Rattle.savepoint.specs.Parts.{start_of}
 use Rattle.stream_law.specs.PartRun.{IsPartRun}
 use Rattle.stream_law.specs.Stream.{IsNextPart, IsRunSoFar, RunPart, SoFar, with_part}
-use Rattle.stream_border.specs.Border.{AreExactAfter}
+use Rattle.stream_law.specs.Border.{AreExactAfter}
 use Rattle.stream_step.specs.Parts.{HasRun, IsBetweenRows, IsFirstRun, IsPartAfter, IsRunOn}
 use Rattle.stream_step.specs.Parts.{first_part}
 use Rattle.stream_step.specs.declared.stream.Stream.{Stream}

@@ -14,7 +14,7 @@ use Rattle.flow_model.specs.declared.setup.Setup.{Setup}
 use Rattle.savepoint.specs.Parts.{start_of}
 use Rattle.stream_law.specs.PartRun.{IsPartRun}
 use Rattle.stream_law.specs.Stream.{IsRunSoFar, RunPart, SoFar, with_part}
-use Rattle.stream_border.specs.Border.{AreExactAfter}
+use Rattle.stream_law.specs.Border.{AreExactAfter}
 use Rattle.stream_step.specs.Pending.{issued_by, kept_by}
 use Rattle.stream_step.specs.declared.stream.Stream.{Stream}
 

@@ -10,8 +10,7 @@ ghost use Rattle.stream_law.specs.Stream.{RunPart, SoFar};
 ghost use Rattle.stream_step.specs.Parts.{HasRun, IsFirstRun, IsPartAfter, IsRunOn};
 ghost use Rattle.stream_step.specs.declared.stream.Stream.{Stream};
 
-use stream_border::parts_between_rows_are_exact;
-use stream_law::{a_part_more_is_a_run, part_runs_are_next_parts};
+use stream_law::{a_part_more_is_a_run, part_runs_are_next_parts, parts_between_rows_are_exact};
 
 /// A part that was run from where a stream goes on is a part after all that the stream has run,
 /// whatever that is. With the part, it is one run (`later`). If the stream has run nothing, the

@@ -11,7 +11,7 @@ use Rattle.flow_model.specs.Setup.{setup_view}
 use Rattle.flow_model.specs.SetupView.{SetupView}
 use Rattle.savepoint.specs.Parts.{joined_journal, unstopped}
 use Rattle.stream_law.specs.Stream.{IsRunSoFar}
-use Rattle.stream_border.specs.Border.{AreExactAfter}
+use Rattle.stream_law.specs.Border.{AreExactAfter}
 use Rattle.flow_exact.specs.declared.course.Course.{Course}
 use Rattle.flow_exact.specs.declared.trail.Trail.{Trail}
 

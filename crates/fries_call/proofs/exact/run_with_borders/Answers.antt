@@ -1,6 +1,6 @@
 use Rattle.std.proofs.Common.{refl, subst, sym}
 use Rattle.std.proofs.lemmas.Result.{IfOk-weaker}
-use Rattle.stream_border.specs.Border.{AreExactAfter}
+use Rattle.stream_law.specs.Border.{AreExactAfter}
 use Rattle.flow_model.specs.Record.{record_view}
 use Rattle.flow_model.specs.Run.{IsRun}
 use Rattle.flow_model.specs.Setup.{setup_view}

@@ -1,5 +1,5 @@
 use Rattle.std.proofs.Common.{◌∙◌, ap, subst, sym}
-use Rattle.flow_begin.specs.Later.{HasWholeRows}
+use Rattle.flow_laws.specs.Later.{HasWholeRows}
 use Rattle.flow_model.specs.Record.{record_view}
 use Rattle.flow_model.specs.Run.{IsRunSince}
 use Rattle.flow_model.specs.Setup.{setup_view}

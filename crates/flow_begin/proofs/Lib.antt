@@ -1,5 +1,0 @@
-pub mod RunLemmas
-pub mod LineageLemmas
-pub mod RootLemmas
-pub mod WholeLemmas
-pub mod OnceLemmas

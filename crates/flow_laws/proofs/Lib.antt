@@ -1,0 +1,9 @@
+pub mod RunLemmas
+pub mod LineageLemmas
+pub mod RootLemmas
+pub mod WholeLemmas
+pub mod OnceLemmas
+pub mod MaskLemmas
+pub mod NumberLemmas
+pub mod PlanLemmas
+pub mod SetupLemmas

@@ -1,4 +1,0 @@
-pub mod MaskLemmas
-pub mod NumberLemmas
-pub mod PlanLemmas
-pub mod SetupLemmas

@@ -1,5 +1,0 @@
-mod MovedLemmas
-mod CapLemmas
-mod WholeLemmas
-mod OneRunLemmas
-mod EndedLemmas
