@@ -77,6 +77,20 @@ pub struct KindRow {
     pub followers: Followers,
 }
 
+/// What most kinds have: an operator of one edge out, which makes one tuple or none of each and may
+/// be given a function of another kind. A row says where its kind differs.
+const ONE_FOR_ONE: KindRow = KindRow {
+    name: "",
+    keys: &[],
+    role: Role::Operator,
+    shape: Shape::AtMostOne,
+    least_outs: 1,
+    most_outs: 1,
+    most_workers: MAX_NODE_WORKERS,
+    counts: false,
+    followers: Followers::FreeKinds,
+};
+
 impl Kind {
     /// The row of the kind. A new kind has its row here and in `specs/Kinds.antt`.
     pub fn row(self) -> KindRow
@@ -93,102 +107,60 @@ impl Kind {
         match self {
             Kind::Source => KindRow {
                 name: "source",
-                keys: &[],
                 role: Role::Source,
                 shape: Shape::Nothing,
-                least_outs: 1,
-                most_outs: 1,
                 most_workers: 1,
-                counts: false,
                 followers: Followers::Nothing,
+                ..ONE_FOR_ONE
             },
             Kind::Filter => KindRow {
                 name: "filter",
                 keys: &["when"],
-                role: Role::Operator,
-                shape: Shape::AtMostOne,
-                least_outs: 1,
                 most_outs: 2,
-                most_workers: MAX_NODE_WORKERS,
-                counts: false,
-                followers: Followers::FreeKinds,
+                ..ONE_FOR_ONE
             },
             Kind::Map => KindRow {
                 name: "map",
                 keys: &["steps"],
-                role: Role::Operator,
-                shape: Shape::AtMostOne,
-                least_outs: 1,
-                most_outs: 1,
-                most_workers: MAX_NODE_WORKERS,
-                counts: false,
-                followers: Followers::FreeKinds,
+                ..ONE_FOR_ONE
             },
             Kind::Enrich => KindRow {
                 name: "enrich",
                 keys: &["key", "into", "table", "other"],
-                role: Role::Operator,
-                shape: Shape::AtMostOne,
-                least_outs: 1,
-                most_outs: 1,
-                most_workers: MAX_NODE_WORKERS,
-                counts: false,
-                followers: Followers::FreeKinds,
+                ..ONE_FOR_ONE
             },
             Kind::Count => KindRow {
                 name: "count",
                 keys: &["key", "add", "into"],
-                role: Role::Operator,
-                shape: Shape::AtMostOne,
-                least_outs: 1,
-                most_outs: 1,
-                most_workers: MAX_NODE_WORKERS,
                 counts: true,
                 followers: Followers::SameKind,
+                ..ONE_FOR_ONE
             },
             Kind::Dedupe => KindRow {
                 name: "dedupe",
                 keys: &["key"],
-                role: Role::Operator,
-                shape: Shape::AtMostOne,
-                least_outs: 1,
-                most_outs: 1,
-                most_workers: MAX_NODE_WORKERS,
                 counts: true,
                 followers: Followers::SameKind,
+                ..ONE_FOR_ONE
             },
             Kind::Clamp => KindRow {
                 name: "clamp",
                 keys: &["on", "low", "high"],
-                role: Role::Operator,
-                shape: Shape::AtMostOne,
-                least_outs: 1,
-                most_outs: 1,
-                most_workers: MAX_NODE_WORKERS,
-                counts: false,
-                followers: Followers::FreeKinds,
+                ..ONE_FOR_ONE
             },
             Kind::Split => KindRow {
                 name: "split",
                 keys: &["on", "by", "most"],
-                role: Role::Operator,
                 shape: Shape::Pieces,
-                least_outs: 1,
-                most_outs: 1,
-                most_workers: MAX_NODE_WORKERS,
-                counts: false,
-                followers: Followers::FreeKinds,
+                ..ONE_FOR_ONE
             },
             Kind::Replicate => KindRow {
                 name: "replicate",
-                keys: &[],
-                role: Role::Operator,
                 shape: Shape::Copies,
                 least_outs: 2,
                 most_outs: 8,
-                most_workers: MAX_NODE_WORKERS,
-                counts: false,
                 followers: Followers::Nothing,
+                ..ONE_FOR_ONE
             },
             Kind::Sink => KindRow {
                 name: "sink",
@@ -198,8 +170,8 @@ impl Kind {
                 least_outs: 0,
                 most_outs: 0,
                 most_workers: 1,
-                counts: false,
                 followers: Followers::Nothing,
+                ..ONE_FOR_ONE
             },
         }
     }
