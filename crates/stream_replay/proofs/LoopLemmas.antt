@@ -1,28 +1,20 @@
 -- Where the loop over the parts is.
 use Rattle.std.proofs.Common.{◌≡◌, ◌∙◌, ◌+◌, ◌++◌, ℕ, List, [], ◌∷◌, ap, arith, length, refl, subst}
-use Rattle.std.proofs.Common.{Some, drop, map, sym}
+use Rattle.std.proofs.Common.{Some, drop, sym}
 use Rattle.std.specs.Prelude.{Err, IfErr, IfOk, Ok, OnOk, Result}
 use Rattle.std.proofs.lemmas.List.{append_assoc, length-append, same_from_push}
 use Rattle.std.proofs.lemmas.Option.{same_Some}
-use Rattle.cover_planner.specs.declared.cover.Plan.{Plan}
 use Rattle.jobs.specs.declared.job.Job.{Job}
-use Rattle.tuple_trace.specs.declared.row.Row.{Row}
-use Rattle.versions.specs.declared.request.Request.{Request}
-use Rattle.sink_journal.specs.declared.audit.Noted.{Noted}
-use Rattle.flow_model.specs.Setup.{setup_view}
-use Rattle.flow_model.specs.declared.setup.Setup.{Setup}
-use Rattle.fries_lines.specs.Lines.{noted}
 use Rattle.audit_parts.specs.Cut.{parts_of}
 use Rattle.audit_parts.specs.Texts.{IsReadAs, IsTextOf}
 use Rattle.audit_parts.specs.declared.part.AuditPart.{AuditPart}
-use Rattle.stream_replay.specs.InParts.{AreRunInParts, Given, Records, given_in_parts}
-use Rattle.stream_replay.specs.Loose.{IsLooseIn}
+use Rattle.stream_replay.specs.InParts.{AreRunInParts, Given, Records}
 use Rattle.stream_replay.specs.declared.fault.PartFault.{PartFault}
 use Rattle.stream_replay.specs.declared.fault.PartFault.TheVariants as part
 use Rattle.stream_replay.specs.declared.progress.Progress.{Progress}
 use Rattle.stream_replay.specs.declared.whole.Whole.{Whole}
 use Rattle.stream_replay.specs.inner.Progress.{HasPassed, IsCounted, IsLooseAmong, IsLooseFor}
-use Rattle.stream_replay.specs.inner.Progress.{body_of, given_of}
+use Rattle.stream_replay.specs.inner.Progress.{body_of}
 use Rattle.stream_replay.proofs.LooseLemmas.{has_apart}
 use Rattle.stream_replay.proofs.PassLemmas.{loose_among}
 
@@ -108,42 +100,6 @@ counted_next next left later (records, are, text, read) =
       },
       are ∙ ap (λ (r : Records). r ∷ later) (sym same),
     )
-
--- ---- of a whole setup
-
-abbrev given_as : Setup → List Request → List Plan → List Noted → List Row → Given
-given_as s requests plans refused rows = record {
-  setup = record (setup_view s) { requests = requests; plans = plans };
-  refused = refused;
-  rows = rows;
-}
-
-pub same_given : (whole : Whole) (setup made : Setup) (rows : List Row) → made ≡ setup
-    → whole.requests ≡ setup.judged.accepted → whole.plans ≡ setup.plans
-    → whole.refused ≡ setup.judged.refused → whole.rows.now ≡ rows
-    → given_of whole (setup_view made) ≡ given_in_parts setup rows
-same_given whole setup made rows same requests plans refused rows_are =
-    ap (λ (s : Setup). given_of whole (setup_view s)) same
-    ∙ (ap (λ (l : List Request). given_as setup l whole.plans whole.noted.items whole.rows.now)
-    requests
-    ∙ (ap (λ (l : List Plan). given_as setup setup.judged.accepted l whole.noted.items
-    whole.rows.now) plans
-    ∙ (ap (λ (l : List Noted). given_as setup setup.judged.accepted setup.plans l whole.rows.now)
-    (whole.noted_are ∙ ap (map noted) refused)
-    ∙ ap (λ (l : List Row). given_as setup setup.judged.accepted setup.plans
-    (map noted setup.judged.refused) l) rows_are)))
-
-loose_in : (given : Given) (all : List Records) (records : Records)
-    → parts_of records ≡ Some all → (why : PartFault) → IsLooseAmong given all why
-    → IsLooseIn given records why
-loose_in given all records are (part.Loose number) loose = (all, are, loose)
-loose_in given all records are part.NoMemory loose = tt
-
-pub err_in : {T : Type 0} (r : Result T PartFault) (given : Given) (all : List Records)
-    (records : Records) → parts_of records ≡ Some all → IfErr r (IsLooseAmong given all)
-    → IfErr r (IsLooseIn given records)
-err_in (Ok back) given all records are loose = tt
-err_in (Err why) given all records are loose = loose_in given all records are why loose
 
 -- runs one after another aren't refused
 found_for : (given : Given) (all : List Records) (earlier : List Records) (last : Records)

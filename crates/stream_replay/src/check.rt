@@ -56,18 +56,61 @@ pub fn check_parts(
         → AreRunInParts (given_in_parts setup rows.now) earlier last
         → IfErr result (λ fault. fault ≡ OutOfMemory) }
 {
-    let Some(mut parts) = AuditParts::of(alloc, bytes)? else {
-        return Ok(setup);
-    };
-    let Some(first) = parts.next_part()? else {
-        return Ok(setup);
-    };
+    match AuditParts::of(alloc, bytes)? {
+        Some(parts) => check_all(alloc, setup, rows, parts),
+        None => Ok(setup),
+    }
+}
+
+// Looks at all parts, none of which was read.
+fn check_all(
+    alloc: Global,
+    setup: Setup,
+    rows: &Rows,
+    parts: AuditParts<'_>,
+) -> Result<Setup, PartFault>
+    requires { AreFromSources (job_view setup.job) rows.now }
+    ensures view { IfOk result (λ back. setup_view back ≡ setup_view setup) }
+    ensures job { IfOk result (λ back. back.job ≡ setup.job) }
+    ensures refused { IfOk result (λ back. back.judged.refused ≡ setup.judged.refused) }
+    ensures loose { IfErr result (IsLooseAmong (given_in_parts setup rows.now)
+        (parts_left parts.entry)) }
+    ensures parts { IfOk result (λ back. (earlier : List Records) (last : Records)
+        → parts_left parts.entry ≡ earlier ++ last ∷ []
+        → AreRunInParts (given_in_parts setup rows.now) earlier last) }
+{
+    let mut parts = parts;
+    match parts.next_part()? {
+        Some(first) => check_from(alloc, setup, rows, parts, first),
+        None => Ok(setup),
+    }
+}
+
+// Looks at all parts, of which the first was read.
+fn check_from(
+    alloc: Global,
+    setup: Setup,
+    rows: &Rows,
+    parts: AuditParts<'_>,
+    first: AuditPart,
+) -> Result<Setup, PartFault>
+    requires sources { AreFromSources (job_view setup.job) rows.now }
+    requires counted { IsCounted first }
+    ensures view { IfOk result (λ back. setup_view back ≡ setup_view setup) }
+    ensures job { IfOk result (λ back. back.job ≡ setup.job) }
+    ensures refused { IfOk result (λ back. back.judged.refused ≡ setup.judged.refused) }
+    ensures loose { IfErr result (IsLooseAmong (given_in_parts setup rows.now)
+        (body_of first ∷ parts_left parts.entry)) }
+    ensures parts { IfOk result (λ back. (earlier : List Records) (last : Records)
+        → body_of first ∷ parts_left parts.entry ≡ earlier ++ last ∷ []
+        → AreRunInParts (given_in_parts setup rows.now) earlier last) }
+{
     let whole = Whole::of(alloc, &setup, rows)?;
     let progress = Progress::begin(alloc, setup, &whole)?;
     pass_all(alloc, &whole, progress, parts, first)
 }
 
-// Looks at all parts, of which the first was read.
+// The same from the progress before the first part.
 fn pass_all(
     alloc: Global,
     whole: &Whole<'_>,
