@@ -11,9 +11,8 @@ ghost use Rattle.stream_call.specs.Opened.{IsAnew, IsOfFiles, IsOpened, names_of
 ghost use Rattle.stream_call.specs.Unopened.{HasOnlyAlerts, IsUnopened};
 
 use crate::fault::StreamFault;
-use crate::opened::{Asked, Opened, Origin, asked_in, make_opened, mode_of, source_of};
+use crate::opened::{Asked, Opened, Origin, Requested, asked_in, boxed, make_opened, mode_of};
 use fries_lines::{Fault, FileIs};
-use fries_steps::job_in;
 use fries_words::StreamFiles;
 use jobs::Job;
 use payments::{GrowingShelf, store};
@@ -30,23 +29,24 @@ pub(crate) fn begin_files<S: GrowingShelf>(
     alloc: Global,
     files: &StreamFiles,
     shelf: &mut S,
-) -> Result<Opened, StreamFault>
+) -> Result<Box<Opened>, StreamFault>
     requires apart { bytes_eq files.now.alerts files.now.audit ≡ false }
     ensures opened { IfOk result (λ opened.
-        IsOpened files.now opened (S.state shelf.new).files) }
-    ensures of { IfOk result (IsOfFiles files.now (S.state shelf.old).files) }
-    ensures anew { IfOk result (IsAnew files.now (S.state shelf.old).files
-        (S.state shelf.new).files) }
+        IsOpened files.now opened.value (S.state shelf.new).files) }
+    ensures of { IfOk result (λ opened.
+        IsOfFiles files.now (S.state shelf.old).files opened.value) }
+    ensures anew { IfOk result (λ opened. IsAnew files.now (S.state shelf.old).files
+        (S.state shelf.new).files opened.value) }
     ensures closed { OnOk result ((S.state shelf.new).draft ≡ None) }
     ensures faults { OnOk result ((S.state shelf.new).faults ≡ (S.state shelf.old).faults) }
     ensures cause { IfErr result (IsUnopened files.now (S.state shelf.old)
         (S.state shelf.new)) }
 {
-    let job = job_in(alloc, &files.plan.job, shelf)?;
-    let Asked { bytes, requests } = asked_in(alloc, &job, files, shelf)?;
-    let source = source_of(&job)?;
+    let Asked { job, source, file } = asked_in(alloc, files, shelf)?;
     let headers = headers_of(alloc, &job)?;
-    let intake = begin(alloc, job, requests, mode_of(files))?;
+    let Requested { bytes, requests } = file;
+    let intake = begin(alloc, Box::into_inner(job), requests, mode_of(files))?;
+    let intake = boxed(alloc, intake)?;
     let opened = make_opened(alloc, intake, bytes, source, headers.origin())?;
     write_headers(files, &headers, shelf)?;
     Ok(opened)

@@ -86,6 +86,7 @@ where
     let alloc = host.alloc;
     match open(alloc, files, shelf) {
         Ok(opened) => {
+            let opened = Box::into_inner(opened);
             let ran = run_opened(host, files, opened, tap, shelf, watch);
             outcome_of(alloc, ran, out)
         }
@@ -155,9 +156,10 @@ fn open<S: GrowingShelf>(
     alloc: Global,
     files: &StreamFiles,
     shelf: &mut S,
-) -> Result<Opened, StreamFault>
+) -> Result<Box<Opened>, StreamFault>
     requires closed { (S.state shelf.old).draft ≡ None }
-    ensures opens { IfOk result (Opens files.now (S.state shelf.old) (S.state shelf.new)) }
+    ensures opens { IfOk result (λ opened.
+        Opens files.now (S.state shelf.old) (S.state shelf.new) opened.value) }
     ensures closed { OnOk result ((S.state shelf.new).draft ≡ None) }
     ensures cause { IfErr result (IsUnopened files.now (S.state shelf.old)
         (S.state shelf.new)) }
@@ -331,6 +333,31 @@ where
     if inputs.reader.fed() < row {
         return Err(StreamFault::Save(StreamSaveFault::Past(row)));
     }
+    save_and_end(call, stream, inputs, shelf, watch)
+}
+
+// Writes the savepoint of a stream whose input has ended, and runs the last part.
+fn save_and_end<R, L: Lanes + Sync, G: Gate + Sync, S: GrowingShelf, W: Watch>(
+    call: &StreamCall<'_, R, L, G>,
+    stream: Stream,
+    inputs: &mut StreamInputs,
+    shelf: &mut S,
+    watch: &mut W,
+) -> Result<(), StreamFault>
+where
+    R: Threads + Wait + Sync,
+    requires source { IsSourceOf (job_view stream.setup.job) call.now.source }
+    requires closed { (S.state shelf.old).draft ≡ None }
+    requires stands { Stands call.now.behind call.now.names stream (S.state shelf.old).files }
+    ensures ended { OnOk result ((ended : HasEndedAt
+        (terms call.now.names call.now.every call.now.source) stream inputs.new.books
+        (S.state shelf.old).files (S.state shelf.new).files)
+        × IsBooked ended.is_saved.goes.written inputs.old.books inputs.new.books) }
+    ensures left { IfErr result (IsUnended
+        (terms call.now.names call.now.every call.now.source) stream (S.state shelf.old)
+        (S.state shelf.new) inputs.new) }
+    ensures kept { AreKept inputs.old inputs.new }
+{
     let stream = save_if_asked(call, stream, &mut inputs.books, shelf, watch)?;
     let _last = end_stream(call, stream, &inputs.books, shelf)?;
     Ok(())

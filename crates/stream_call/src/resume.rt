@@ -13,10 +13,10 @@ ghost use Rattle.stream_call.specs.Unopened.{AreUnmade, HasOnlyAlerts, IsNoStrea
 ghost use Rattle.stream_call.specs.Unopened.{StaysUncut, IsUnopened, Misfits};
 
 use crate::fault::StreamFault;
-use crate::opened::{Asked, Opened, Origin, asked_in, make_opened, mode_of, source_of};
+use crate::opened::{Asked, Opened, Origin, Requested, asked_in, boxed, make_opened, mode_of};
 use flow_model::Setup;
 use fries_lines::FileIs;
-use fries_steps::{job_in, read_file};
+use fries_steps::read_file;
 use fries_words::StreamFiles;
 use operators::Job;
 use payments::GrowingShelf;
@@ -38,24 +38,26 @@ pub(crate) fn resume_files<S: GrowingShelf>(
     save: &Word,
     left_out: u64,
     shelf: &mut S,
-) -> Result<Opened, StreamFault>
+) -> Result<Box<Opened>, StreamFault>
     requires closed { (S.state shelf.old).draft ≡ None }
     ensures opened { IfOk result (λ opened.
-        IsOpened files.now opened (S.state shelf.new).files) }
-    ensures of { IfOk result (IsOfFiles files.now (S.state shelf.old).files) }
-    ensures from { IfOk result (GoesOnFrom (resume_at save.now left_out) files.now
-        (S.state shelf.old).files (S.state shelf.new).files) }
+        IsOpened files.now opened.value (S.state shelf.new).files) }
+    ensures of { IfOk result (λ opened.
+        IsOfFiles files.now (S.state shelf.old).files opened.value) }
+    ensures from { IfOk result (λ opened. GoesOnFrom (resume_at save.now left_out) files.now
+        (S.state shelf.old).files (S.state shelf.new).files opened.value) }
     ensures closed { OnOk result ((S.state shelf.new).draft ≡ None) }
     ensures faults { OnOk result ((S.state shelf.new).faults ≡ (S.state shelf.old).faults) }
     ensures cause { resume_of files.now.saving ≡ Some (resume_at save.now left_out)
         → IfErr result (IsUnopened files.now (S.state shelf.old) (S.state shelf.new)) }
 {
-    let job = job_in(alloc, &files.plan.job, shelf)?;
-    let Asked { bytes, requests } = asked_in(alloc, &job, files, shelf)?;
-    let source = source_of(&job)?;
-    let Saved { job, save } = saved_in(alloc, job, &requests, save, shelf)?;
+    let Asked { job, source, file } = asked_in(alloc, files, shelf)?;
+    let Saved { job, save } = saved_in(alloc, job, &file.requests, save, shelf)?;
     let origin = origin_of(&save, left_out)?;
+    let Requested { bytes, requests } = file;
+    let (job, save) = (Box::into_inner(job), Box::into_inner(save));
     let intake = resume(alloc, job, requests, mode_of(files), save)?;
+    let intake = boxed(alloc, intake)?;
     let opened = make_opened(alloc, intake, bytes, source, origin)?;
     cut_files(files, origin, shelf)?;
     Ok(opened)
@@ -64,33 +66,36 @@ pub(crate) fn resume_files<S: GrowingShelf>(
 // A job, and a savepoint of a stream of it.
 #[derive(Drop)]
 struct Saved {
-    job: Job,
-    save: StreamSave,
+    job: Box<Job>,
+    save: Box<StreamSave>,
 }
 
 fn saved_in<S: GrowingShelf>(
     alloc: Global,
-    job: Job,
+    job: Box<Job>,
     requests: &Requests,
     name: &Word,
     shelf: &mut S,
 ) -> Result<Saved, StreamFault>
     requires few { AreUpTo MAX_STREAM_REQUESTS requests.now }
-    ensures job { IfOk result (λ saved. saved.job ≡ job) }
+    ensures job { IfOk result (λ saved. saved.job.value ≡ job.value) }
     ensures read { IfOk result (λ saved. IsStreamSaveOf (S.state shelf.old).files name.now
-        (job_view job) saved.save) }
-    ensures saved { IfOk result (λ saved. CanSaveStream (job_view job) saved.save) }
+        (job_view job.value) saved.save.value) }
+    ensures saved { IfOk result (λ saved. CanSaveStream (job_view job.value) saved.save.value) }
     ensures files { (S.state shelf.new).files ≡ (S.state shelf.old).files }
     ensures draft { (S.state shelf.new).draft ≡ (S.state shelf.old).draft }
     ensures kept { OnOk result (S.state shelf.new ≡ S.state shelf.old) }
     ensures cause { IfErr result (IsNoStreamSave (S.state shelf.old).files name.now
-        (job_view job) (S.state shelf.old).faults (S.state shelf.new).faults) }
+        (job_view job.value) (S.state shelf.old).faults (S.state shelf.new).faults) }
 {
     let text = read_file(alloc, FileIs::Save, name, shelf)?;
-    let setup = setup_with(alloc, job, requests)?;
+    let setup = setup_with(alloc, Box::into_inner(job), requests)?;
+    let setup = boxed(alloc, setup)?;
     read_streams_can_be_saved(&setup);
     let save = read_stream(alloc, &setup, text.as_slice())?;
-    let Setup { job, .. } = setup;
+    let save = boxed(alloc, save)?;
+    let Setup { job, .. } = Box::into_inner(setup);
+    let job = boxed(alloc, job)?;
     Ok(Saved { job, save })
 }
 

@@ -17,33 +17,41 @@ use Rattle.stream_step.specs.Pending.{exact_from}
 use Rattle.stream_step.specs.declared.stream.Stream.{Stream}
 use Rattle.stream_run.specs.declared.books.Tally.{Tally}
 use Rattle.stream_intake.specs.Intake.{IsKnownTo}
+use Rattle.stream_intake.specs.declared.intake.Intake.{Intake}
 use Rattle.stream_intake.specs.declared.known.Known.{Known}
 use Rattle.stream_run.specs.Standing.{Begins, FileHolds, IsNew}
 use Rattle.stream_call.specs.Opened.{every_of, names_of}
-use Rattle.stream_call.specs.Unopened.{NoJob, NoMemory, NoRequests, NoSource, Unwritten}
+use Rattle.stream_call.specs.Unopened.{NoMemory, Unwritten}
 use Rattle.stream_call.proofs.OpenedLemmas.{none-due}
 use Rattle.stream_run.proofs.SavedLemmas.{held, held_before}
 use Rattle.stream_call.proofs.begin.begin_files.Goals as goal
 
 pub returns-clause-opened : goal.returns-clause-opened
 returns-clause-opened g c =
-    let made = c.in_ok-opened.opened in
+    let made = c.in_ok-opened.opened.value in
     let is = c.in_ok-opened.ensures in
     let intake = c.in_ok-intake.intake in
+    let boxed = c.in_ok-intake-2.ensures in
+    let stream_is : made.stream ≡ intake.stream =
+    is.stream ∙ ap (λ (i : Intake). i.stream) boxed in
+    let known_is : made.inputs.known ≡ intake.known =
+    is.known ∙ ap (λ (i : Intake). i.known) boxed in
+    let job_in : intake.stream.setup.job ≡ c.in_ok-job.field-0.job.value =
+    c.in_ok-intake.ensures.job ∙ c.into_inner.ensures in
     let files = c.args.files.now in
     let now = (g.S.Shelf.state c.write_headers.new.shelf).files in
     let mid = (g.S.Shelf.state c.asked_in.new.shelf).files in
     let alerts = record_text (header intake.stream.setup.job.columns) in
     let audit = record_text audit_header in
     let row : made.stream.start.row ≡ 0 =
-    ap (λ (s : Stream). s.start.row) is.stream
+    ap (λ (s : Stream). s.start.row) stream_is
     ∙ ap (λ (b : Begin). b.row) c.in_ok-intake.ensures.first in
-    let job_is : made.stream.setup.job ≡ c.in_ok-job.job =
-    ap (λ (s : Stream). s.setup.job) is.stream ∙ c.in_ok-intake.ensures.job in
+    let job_is : made.stream.setup.job ≡ c.in_ok-job.field-0.job.value =
+    ap (λ (s : Stream). s.setup.job) stream_is ∙ job_in in
     let headers = c.in_ok-headers.ensures in
     let text_is : c.in_ok-headers.headers.alerts ≡ alerts =
     headers.alerts
-    ∙ ap (λ (j : Job). record_text (header j.columns)) (sym c.in_ok-intake.ensures.job) in
+    ∙ ap (λ (j : Job). record_text (header j.columns)) (c.deref.ensures ∙ sym job_in) in
     let files_are : now ≡ with_bytes (with_bytes mid files.alerts alerts) files.audit audit =
     c.in_ok-write_headers.ensures.files
     ∙ (ap (λ (t : List ℕ). with_bytes (with_bytes mid files.alerts t) files.audit
@@ -64,15 +72,15 @@ returns-clause-opened g c =
       begins =
           subst (λ (b : Option ℕ). Begins b (names_of files) made.stream now)
           (sym (is.behind ∙ c.origin.ensures.behind))
-          (subst (λ (s : Stream). IsNew (names_of files) s now) (sym is.stream) new);
+          (subst (λ (s : Stream). IsNew (names_of files) s now) (sym stream_is) new);
       ready = record {
         source_is =
             subst (λ (n : ℕ). IsSourceOf (job_view made.stream.setup.job) n) (sym is.source)
-            (subst (λ (j : Job). IsSourceOf (job_view j) c.in_ok-source.source)
-            (sym job_is) c.in_ok-source.ensures.source);
+            (subst (λ (j : Job). IsSourceOf (job_view j) c.in_ok-job.field-0.source)
+            (sym job_is) c.in_ok-job.ensures.source);
         known =
-            subst (λ (k : Known). IsKnownTo k.requests made.stream) (sym is.known)
-            (subst (λ (s : Stream). IsKnownTo intake.known.requests s) (sym is.stream)
+            subst (λ (k : Known). IsKnownTo k.requests made.stream) (sym known_is)
+            (subst (λ (s : Stream). IsKnownTo intake.known.requests s) (sym stream_is)
             (subst (λ (r : List Request). IsKnownTo r intake.stream)
             (sym c.in_ok-intake.ensures.known) c.in_ok-intake.ensures.is_known));
         fed = omega (arith, is.fed, c.origin.ensures.left_out);
@@ -84,7 +92,7 @@ returns-clause-opened g c =
           (is.unread job);
       kept = is.kept;
       goes_on = is.goes_on;
-      exact = rw is.stream (c.in_ok-intake.ensures.exact
+      exact = rw stream_is (c.in_ok-intake.ensures.exact
           ∙ ap (λ b. exact_from b intake.stream.start.turned) c.mode_of.ensures.exact);
       read = is.read ∙ ap (λ (k : Known). length k.requests) (sym is.known);
       noted_are = is.noted ∙ ap (map noted) (sym is.refused);
@@ -94,36 +102,42 @@ returns-clause-opened g c =
 pub returns-clause-of : goal.returns-clause-of
 returns-clause-of g c =
     let is = c.in_ok-opened.ensures in
+    let boxed = c.in_ok-intake-2.ensures in
     let intake = c.in_ok-intake.ensures in
+    let job = c.into_inner.ensures in
     record {
-      job = rw (is.stream, intake.job) c.in_ok-job.ensures.job;
-      requests = rw (is.stream, intake.job, is.known, intake.known, sym c.in_ok-job.ensures.files)
-          c.in_ok-bytes.ensures.asked;
-      splits = rw (is.stream, intake.job) intake.splits;
+      job = rw (is.stream, boxed, intake.job, job) c.in_ok-job.ensures.job;
+      requests = rw (is.stream, is.known, boxed, intake.job, job, intake.known)
+          c.in_ok-job.ensures.asked;
+      splits = rw (is.stream, boxed, intake.job) intake.splits;
     }
 
 pub returns-clause-anew : goal.returns-clause-anew
 returns-clause-anew g c =
     let is = c.in_ok-opened.ensures in
+    let boxed = c.in_ok-intake-2.ensures in
     let intake = c.in_ok-intake.ensures in
+    let job = c.into_inner.ensures in
     let headers = c.in_ok-headers.ensures in
     record {
       behind = is.behind ∙ c.origin.ensures.behind;
       none_left_out = is.fed ∙ c.origin.ensures.left_out;
-      ordered = rw is.stream (intake.ordered ∙ c.mode_of.ensures.ordered);
-      none_issued = rw is.stream intake.none;
-      refused = rw (is.stream, is.known, is.refused, intake.known) intake.refused;
-      alerts_counted = rw (is.stream, intake.job) (ap (λ (t : Tally). t.alerts) is.tally
+      ordered = rw (is.stream, boxed) (intake.ordered ∙ c.mode_of.ensures.ordered);
+      none_issued = rw (is.stream, boxed) intake.none;
+      refused = rw (is.stream, is.known, is.refused, boxed, intake.known) intake.refused;
+      alerts_counted = rw (is.stream, boxed, intake.job, job, sym c.deref.ensures) (ap (λ (t : Tally). t.alerts) is.tally
           ∙ (c.origin.ensures.alerts ∙ ap length headers.alerts));
       audit_counted = ap (λ (t : Tally). t.audit) is.tally
           ∙ (c.origin.ensures.audit ∙ ap length headers.audit);
       files_are = rw (
         is.stream,
+        boxed,
         intake.job,
+        job,
+        sym c.deref.ensures,
         sym headers.alerts,
         sym headers.audit,
         sym c.in_ok-job.ensures.files,
-        sym c.in_ok-bytes.ensures.files,
       )
           c.in_ok-write_headers.ensures.files;
     }
@@ -131,40 +145,14 @@ returns-clause-anew g c =
 pub returns-in_err-job-clause-cause : goal.returns-in_err-job-clause-cause
 returns-in_err-job-clause-cause g c =
     let fault = err_from_is_err_and c.from_residual.result c.from_residual.ensures.1 in
-    rw (fault.1, fault.2)
-    (inl (NoJob _ c.in_err-job.ensures.cause, c.in_err-job.ensures.files))
-
-pub returns-in_err-bytes-clause-cause : goal.returns-in_err-bytes-clause-cause
-returns-in_err-bytes-clause-cause g c =
-    let fault =
-    err_from_is_err_and c.from_residual-in_err-bytes.result
-    c.from_residual-in_err-bytes.ensures.1 in
-    rw (fault.1, fault.2)
-    (inl (
-      NoRequests (job_view c.in_ok-job.job) c.in_err-bytes.field-0.0 c.in_ok-job.ensures.job
-          (rw (sym c.in_ok-job.ensures.kept) c.in_err-bytes.ensures.cause),
-      c.in_err-bytes.ensures.files ∙ c.in_ok-job.ensures.files,
-    ))
-
-pub returns-in_err-source-clause-cause : goal.returns-in_err-source-clause-cause
-returns-in_err-source-clause-cause g c =
-    let fault =
-    err_from_is_err_and c.from_residual-in_err-source.result
-    c.from_residual-in_err-source.ensures.1 in
-    let same = c.in_ok-bytes.ensures.kept ∙ c.in_ok-job.ensures.kept in
-    rw (fault.1, fault.2, c.in_err-source.ensures.none.0)
-    (inl (
-      NoSource (job_view c.in_ok-job.job) c.in_ok-job.ensures.job
-          c.in_err-source.ensures.none.1,
-      ap (λ (s : ShelfState). s.files) same,
-    ))
+    rw (fault.1, fault.2) (inl (c.in_err-job.ensures.cause, c.in_err-job.ensures.files))
 
 pub returns-in_err-headers-clause-cause : goal.returns-in_err-headers-clause-cause
 returns-in_err-headers-clause-cause g c =
     let fault =
     err_from_is_err_and c.from_residual-in_err-headers.result
     c.from_residual-in_err-headers.ensures.1 in
-    let same = c.in_ok-bytes.ensures.kept ∙ c.in_ok-job.ensures.kept in
+    let same = c.in_ok-job.ensures.kept in
     rw (fault.1, fault.2)
     (inl (
       NoMemory (ap (λ (s : ShelfState). s.faults) same),
@@ -176,7 +164,19 @@ returns-in_err-intake-clause-cause g c =
     let fault =
     err_from_is_err_and c.from_residual-in_err-intake.result
     c.from_residual-in_err-intake.ensures.1 in
-    let same = c.in_ok-bytes.ensures.kept ∙ c.in_ok-job.ensures.kept in
+    let same = c.in_ok-job.ensures.kept in
+    rw (fault.1, fault.2)
+    (inl (
+      NoMemory (ap (λ (s : ShelfState). s.faults) same),
+      ap (λ (s : ShelfState). s.files) same,
+    ))
+
+pub returns-in_err-intake-2-clause-cause : goal.returns-in_err-intake-2-clause-cause
+returns-in_err-intake-2-clause-cause g c =
+    let fault =
+    err_from_is_err_and c.from_residual-in_err-intake-2.result
+    c.from_residual-in_err-intake-2.ensures.1 in
+    let same = c.in_ok-job.ensures.kept in
     rw (fault.1, fault.2)
     (inl (
       NoMemory (ap (λ (s : ShelfState). s.faults) same),
@@ -188,7 +188,7 @@ returns-in_err-opened-clause-cause g c =
     let fault =
     err_from_is_err_and c.from_residual-in_err-opened.result
     c.from_residual-in_err-opened.ensures.1 in
-    let same = c.in_ok-bytes.ensures.kept ∙ c.in_ok-job.ensures.kept in
+    let same = c.in_ok-job.ensures.kept in
     rw (fault.1, fault.2)
     (inl (
       NoMemory (ap (λ (s : ShelfState). s.faults) same),
@@ -200,7 +200,7 @@ returns-in_err-write_headers-clause-cause g c =
     let fault =
     err_from_is_err_and c.from_residual-in_err-write_headers.result
     c.from_residual-in_err-write_headers.ensures.1 in
-    let same = c.in_ok-bytes.ensures.kept ∙ c.in_ok-job.ensures.kept in
+    let same = c.in_ok-job.ensures.kept in
     rw (fault.1, fault.2)
     (inr (
       Unwritten c.in_err-write_headers.field-0.0 (rw (sym (ap (λ (s : ShelfState). s.faults) same))

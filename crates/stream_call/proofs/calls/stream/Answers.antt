@@ -9,7 +9,7 @@ use Rattle.stream_call.proofs.calls.stream.Goals as goal
 
 pub returns-in-Ok-clause-ran : goal.returns-in-Ok-clause-ran
 returns-in-Ok-clause-ran g c =
-    let opened = c.in-Ok.opened in
+    let opened = c.into_inner-opened.result in
     let shelf = g.S.Shelf.state c.«open».new.shelf in
     let new = g.S.Shelf.state c.run_opened-ran.new.shelf in
     let ran = c.run_opened-ran.result in
@@ -17,7 +17,8 @@ returns-in-Ok-clause-ran g c =
     (λ none. record {
       opened = opened;
       shelf = shelf;
-      opens = IfOk-at_ok _ c.in-Ok.is c.«open».ensures.opens;
+      opens = rw c.into_inner-opened.ensures
+          (IfOk-at_ok _ c.in-Ok.is c.«open».ensures.opens);
       inputs = ran.inputs;
       ended = subst (λ (o : Option StreamFault). IfNone o (EndsWhole
           (terms_of c.args.files.now opened) (Begun opened shelf (g.T.Tap.state c.args.tap.now))
@@ -29,12 +30,12 @@ returns-in-Ok-clause-ran g c =
 
 pub returns-in-Ok-clause-stopped : goal.returns-in-Ok-clause-stopped
 returns-in-Ok-clause-stopped g c =
-    let opened = c.in-Ok.opened in
+    let opened = c.into_inner-opened.result in
     let ran = c.run_opened-ran in
     by-another c.outcome_of.result.fault _ _
     (λ why some. stopped-by c.args.files.now _ _ _ _ c.outcome_of.result.refused opened
     (g.S.Shelf.state c.«open».new.shelf) ran.result.inputs ran.result.rows ran.result.fault why
-    (IfOk-at_ok _ c.in-Ok.is c.«open».ensures.opens) ran.ensures.left ran.ensures.whole
+    (rw c.into_inner-opened.ensures (IfOk-at_ok _ c.in-Ok.is c.«open».ensures.opens)) ran.ensures.left ran.ensures.whole
     c.outcome_of.ensures.refused ran.ensures.rows some)
     c.outcome_of.ensures.some
 

@@ -3,7 +3,7 @@ use Rattle.std.proofs.lemmas.Result.{err_from_is_err_and}
 use Rattle.flow_model.specs.Record.{record_view}
 use Rattle.stream_call.specs.Ended.{terms}
 use Rattle.stream_call.proofs.EndedLemmas.{saved-at}
-use Rattle.stream_call.proofs.calls.end_whole.Goals as goal
+use Rattle.stream_call.proofs.calls.save_and_end.Goals as goal
 
 pub returns-clause-ended : goal.returns-clause-ended
 returns-clause-ended g c =
