@@ -125,7 +125,8 @@ returns-clause-anew g c =
       ordered = rw (is.stream, boxed) (intake.ordered ∙ c.mode_of.ensures.ordered);
       none_issued = rw (is.stream, boxed) intake.none;
       refused = rw (is.stream, is.known, is.refused, boxed, intake.known) intake.refused;
-      alerts_counted = rw (is.stream, boxed, intake.job, job, sym c.deref.ensures) (ap (λ (t : Tally). t.alerts) is.tally
+      alerts_counted = rw (is.stream, boxed, intake.job, job, sym c.deref.ensures)
+          (ap (λ (t : Tally). t.alerts) is.tally
           ∙ (c.origin.ensures.alerts ∙ ap length headers.alerts));
       audit_counted = ap (λ (t : Tally). t.audit) is.tally
           ∙ (c.origin.ensures.audit ∙ ap length headers.audit);

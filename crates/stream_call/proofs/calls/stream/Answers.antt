@@ -35,7 +35,8 @@ returns-in-Ok-clause-stopped g c =
     by-another c.outcome_of.result.fault _ _
     (λ why some. stopped-by c.args.files.now _ _ _ _ c.outcome_of.result.refused opened
     (g.S.Shelf.state c.«open».new.shelf) ran.result.inputs ran.result.rows ran.result.fault why
-    (rw c.into_inner-opened.ensures (IfOk-at_ok _ c.in-Ok.is c.«open».ensures.opens)) ran.ensures.left ran.ensures.whole
+    (rw c.into_inner-opened.ensures (IfOk-at_ok _ c.in-Ok.is c.«open».ensures.opens))
+    ran.ensures.left ran.ensures.whole
     c.outcome_of.ensures.refused ran.ensures.rows some)
     c.outcome_of.ensures.some
 

@@ -41,4 +41,5 @@ returns-in_err-source-clause-cause g c =
     c.from_residual-in_err-source.ensures.1 in
     rw (fault.1, fault.2, c.in_err-source.ensures.none.0)
     (NoSource (job_view c.in_ok-job-2.job.value)
-    (rw c.in_ok-job-2.ensures c.in_ok-job.ensures.job) (rw c.deref-2.ensures at c.in_err-source.ensures.none.1))
+    (rw c.in_ok-job-2.ensures c.in_ok-job.ensures.job)
+    (rw c.deref-2.ensures at c.in_err-source.ensures.none.1))

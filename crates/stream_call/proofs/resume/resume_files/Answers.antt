@@ -187,7 +187,8 @@ returns-in_err-origin-clause-cause g c resumed =
     rw (fault.1, fault.2)
     (inl (
       NoFit job requests (resume_at c.args.save.now c.args.left_out) save _ asked.ensures.job
-          asked.ensures.asked resumed saved (rw c.deref.ensures at c.in_err-origin.ensures.cause job requests),
+          asked.ensures.asked resumed saved
+          (rw c.deref.ensures at c.in_err-origin.ensures.cause job requests),
       ap (λ (s : ShelfState). s.files) same,
     ))
 

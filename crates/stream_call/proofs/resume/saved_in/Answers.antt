@@ -8,7 +8,8 @@ use Rattle.stream_call.proofs.resume.saved_in.Goals as goal
 
 pub returns-clause-job : goal.returns-clause-job
 returns-clause-job g c =
-    c.in_ok-job.ensures ∙ (ap (λ (s : Setup). s.job) (c.into_inner-job.ensures ∙ c.in_ok-setup-2.ensures)
+    c.in_ok-job.ensures
+    ∙ (ap (λ (s : Setup). s.job) (c.into_inner-job.ensures ∙ c.in_ok-setup-2.ensures)
     ∙ (c.in_ok-setup.ensures ∙ c.into_inner.ensures))
 
 pub returns-clause-read : goal.returns-clause-read
